@@ -1,0 +1,152 @@
+//! A request's answer: the seed by the unchanged text, and beside it what only the recording copy shows.
+
+use std::collections::HashSet;
+
+use judge::{Record, Request};
+
+use crate::bits;
+
+/// Which of the conditions under which port and Rust are comparable bit for bit a request meets.
+#[derive(Clone, Copy, Debug, PartialEq, Eq)]
+pub struct Conditions {
+    /// Some row names a column more than once: the Rust's unstable sort may swap equal columns.
+    pub twice: bool,
+    /// Some Ritz value of some round is NaN: the Rust's order of the Ritz values is then not a total one.
+    pub nan: bool,
+    /// The last round's first D + 1 Ritz values fall strictly, so no tie reaches the seed.
+    pub falls: bool,
+    /// Some row has no entries or minus zeros only: its degree is the zero that the library's sum begins with.
+    pub empty: bool,
+    /// As `nan`, in the last round alone.
+    pub nan_last: bool,
+}
+
+/// Document 01's four counts.
+#[derive(Clone, Copy, Debug, PartialEq, Eq)]
+pub struct Counts {
+    pub passes: u64,
+    pub refreshed: u64,
+    pub zeroed: u64,
+    pub isolated: u64,
+}
+
+pub struct Answer {
+    pub seed: Vec<f64>,
+    pub conditions: Conditions,
+    pub counts: Counts,
+}
+
+/// Asks both texts; they must agree in every bit, or what the copy recorded says nothing about the seed.
+pub fn solve(request: &Request) -> Result<Answer, String> {
+    let seed = judge::seed(request)?;
+    let (copied, record) = judge::seed_recorded(request)?;
+    if bits::join(&seed) != bits::join(&copied) {
+        return Err("the recording copy gives other bits than document 000".to_owned());
+    }
+    Ok(Answer {
+        seed,
+        conditions: conditions(request, &record),
+        counts: counts(request, &record),
+    })
+}
+
+fn conditions(request: &Request, record: &Record) -> Conditions {
+    let has_nan = |ritz: &Vec<f64>| ritz.iter().any(|x| x.is_nan());
+    let last = record.rounds.last().map(|round| &round.ritz);
+    Conditions {
+        twice: (0..request.n()).any(|i| names_twice(&request.columns[request.row(i)])),
+        nan: record.rounds.iter().any(|round| has_nan(&round.ritz)),
+        falls: last.is_some_and(|ritz| falls(&ritz[..request.d + 1])),
+        empty: (0..request.n()).any(|i| sums_to_the_start(&request.values[request.row(i)])),
+        nan_last: last.is_some_and(has_nan),
+    }
+}
+
+fn names_twice(columns: &[u32]) -> bool {
+    let mut seen = HashSet::new();
+    !columns.iter().all(|c| seen.insert(c))
+}
+
+/// A NaN is not above anything, so it does not fall.
+fn falls(ritz: &[f64]) -> bool {
+    ritz.windows(2).all(|pair| pair[0] > pair[1])
+}
+
+/// Adding minus zeros leaves a zero of either sign as it is; adding anything else forgets it.
+fn sums_to_the_start(values: &[f64]) -> bool {
+    values.iter().all(|v| v.to_bits() == (-0.0f64).to_bits())
+}
+
+fn counts(request: &Request, record: &Record) -> Counts {
+    Counts {
+        passes: record.passes,
+        refreshed: record.refreshed,
+        zeroed: record.zeroed,
+        isolated: (0..request.n()).filter(|&i| request.row(i).is_empty()).count() as u64,
+    }
+}
+
+impl Conditions {
+    /// `name=0` or `name=1`, in the order that every list here uses.
+    pub fn words(&self) -> [String; 5] {
+        let word = |name: &str, holds: bool| format!("{name}={}", u8::from(holds));
+        [
+            word("twice", self.twice),
+            word("nan", self.nan),
+            word("falls", self.falls),
+            word("empty", self.empty),
+            word("nan_last", self.nan_last),
+        ]
+    }
+
+    /// All three conditions at once: no column twice, no NaN among the Ritz values, and they fall.
+    pub fn comparable(&self) -> bool {
+        !self.twice && !self.nan && self.falls
+    }
+}
+
+impl Counts {
+    pub fn words(&self) -> [String; 4] {
+        [
+            format!("passes={}", self.passes),
+            format!("refreshed={}", self.refreshed),
+            format!("zeroed={}", self.zeroed),
+            format!("isolated={}", self.isolated),
+        ]
+    }
+}
+
+impl Answer {
+    /// Conditions and counts on one line.
+    pub fn summary(&self) -> String {
+        [&self.conditions.words()[..], &self.counts.words()[..]].concat().join(" ")
+    }
+}
+
+#[cfg(test)]
+mod tests {
+    use super::*;
+
+    #[test]
+    fn a_tie_and_a_nan_do_not_fall() {
+        assert!(falls(&[1.0, 0.5, -1.0]));
+        assert!(!falls(&[1.0, 1.0]));
+        assert!(!falls(&[0.0, -0.0]));
+        assert!(!falls(&[1.0, f64::NAN]));
+        assert!(!falls(&[f64::NAN, 1.0]));
+    }
+
+    #[test]
+    fn only_minus_zeros_keep_the_start() {
+        assert!(sums_to_the_start(&[]));
+        assert!(sums_to_the_start(&[-0.0, -0.0]));
+        assert!(!sums_to_the_start(&[-0.0, 0.0]));
+        assert!(!sums_to_the_start(&[1.0, -1.0]));
+    }
+
+    #[test]
+    fn a_column_apart_from_its_twin_is_found() {
+        assert!(names_twice(&[3, 1, 3]));
+        assert!(!names_twice(&[3, 1, 2]));
+    }
+}
