@@ -12,3 +12,8 @@ pub mod Divide
 pub mod RootLaws
 pub mod RootClosest
 pub mod Splitmix
+pub mod Bounds
+pub mod RitzOrder
+pub mod RowOrder
+pub mod Limits
+pub mod Cases

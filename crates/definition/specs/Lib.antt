@@ -13,3 +13,4 @@ pub mod ChebyshevRayleighRitz
 pub mod SpectralEmbedding
 pub mod Memory
 pub mod Requirements
+pub mod Cases

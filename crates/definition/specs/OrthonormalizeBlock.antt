@@ -5,6 +5,10 @@ use lib.Dec.{eqb}
 use Rattle.definition.specs.Arith.{Arith}
 use Rattle.definition.specs.ChunkedColumnReduce.{Vector, Block, addUp, chunkedSum, columnNorm}
 
+-- the index of the fresh number for row i of column c, round from 0
+unfoldable pub freshIndex : ℕ → ℕ → ℕ → ℕ → ℕ → ℕ
+freshIndex n k round c i = (round + 1) * n * k + c * n + i
+
 module _ (A : Arith) where
   -- v with f in column c
   abbrev pub withColumn : Block A → ℕ → Vector A → Block A
@@ -35,10 +39,6 @@ module _ (A : Arith) where
   -- kept if norm > before x 2^-26; otherwise once refreshed; otherwise zeroed
   unfoldable pub ending : A .F → A .F → Bool → Ending
   ending before norm already = cond (A .lt (A .mul before (A .collapse)) norm) (kept norm) (cond already zeroed refreshed)
-
-  -- the index of the fresh number for row i of column c, round from 0
-  unfoldable pub freshIndex : ℕ → ℕ → ℕ → ℕ → ℕ → ℕ
-  freshIndex n k round c i = (round + 1) * n * k + c * n + i
 
   unfoldable pub written : ℕ → ℕ → ℕ → ℕ → Ending → Block A → Block A
   written n k round c (kept norm) v = withColumn v c (λ i. A .div (v i c) norm)

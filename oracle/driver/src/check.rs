@@ -2,7 +2,7 @@
 
 use std::{fmt::Write, fs, path::Path};
 
-use crate::{big, bits, cases, jacobi, runfile, solve};
+use crate::{big, bits, cases, jacobi, runfile};
 
 /// What one file's repeat showed.
 #[derive(Default)]
@@ -204,11 +204,5 @@ mod tests {
         let mut bad = list.clone();
         bad.replace_range(at..at + 1, if &list[at..at + 1] == "3" { "b" } else { "3" });
         assert_eq!(check_jacobi(&bad).differ.len(), 2);
-    }
-
-    #[test]
-    fn conditions_hold_at_most_once_each() {
-        let all = solve::Conditions { twice: false, nan: false, falls: true, empty: true, nan_last: false };
-        assert!(all.comparable());
     }
 }

@@ -28,7 +28,8 @@ oracle: answers of document 000 (bhtsne's spectral.rs), compiled unchanged
   oracle big N NUMBER D ROUNDS DEGREE
                             digest and some rows of the seed of a graph of N rows
   oracle jacobi             matrices and what the Jacobi solver makes of them
-  oracle list runs|big      what the stored lists hold, one a line
+  oracle list runs|big|families|matrices
+                            what the stored lists hold, one a line
   oracle check [FOLDER]     repeats the stored vectors and compares
   oracle --help             this text
 
@@ -77,6 +78,8 @@ fn text(words: &[&str]) -> Result<String, String> {
         ["jacobi"] => Ok(jacobi::list()),
         ["list", "runs"] => Ok(lines(&cases::labels())),
         ["list", "big"] => Ok(lines(&cases::BIG.map(|args| args.map(|x| x.to_string()).join(" ")))),
+        ["list", "families"] => Ok(lines(&make::families().map(str::to_owned))),
+        ["list", "matrices"] => Ok(lines(&jacobi::KINDS.map(|(kind, _)| kind.to_owned()))),
         [] => Err("no command; see oracle --help".to_owned()),
         [first, ..] => Err(format!("{first}: unknown, or not its arguments; see oracle --help")),
     }

@@ -41,13 +41,9 @@ const BANDS: [(usize, usize); 3] = [(1, 12), (13, 36), (37, MAX_ROWS)];
 /// Numbers 0 to this, exclusive, meet every family at every D in every band once.
 pub const ONCE: u64 = (FAMILIES.len() * judge::MAX_D * BANDS.len()) as u64;
 
-/// Which family a number belongs to.
-pub fn family(number: u64) -> &'static str {
-    FAMILIES[place(number, FAMILIES.len() as u64)].0
-}
-
-pub fn families() -> impl Iterator<Item = &'static str> {
-    FAMILIES.iter().map(|(name, _)| *name)
+/// The families in the order of the numbers that meet them.
+pub fn families() -> [&'static str; FAMILIES.len()] {
+    FAMILIES.map(|(name, _)| name)
 }
 
 fn place(number: u64, among: u64) -> usize {
@@ -86,12 +82,12 @@ fn request(d: usize, rounds: usize, degree: usize, seed_std: f64, rows: &Rows) -
 }
 
 fn seed_std(rng: &mut Rng) -> f64 {
-    match rng.below(10) {
-        0..=3 => 1e-4,
-        4 => 1.0,
-        5 | 6 => rng.weight() * rng.power_of_two(-40, 40),
-        7 => rng.pick(&[1e-300, 1e300]),
-        8 => f64::from_bits(1),
+    match rng.below(20) {
+        0..=9 => 1e-4,
+        10..=12 => 1.0,
+        13..=16 => rng.weight() * rng.power_of_two(-40, 40),
+        17 => rng.pick(&[1e-300, 1e300]),
+        18 => f64::from_bits(1),
         _ => f64::MAX,
     }
 }
@@ -352,6 +348,7 @@ mod tests {
 
     #[test]
     fn families_have_what_they_are_named_for() {
+        let family = |x: u64| families()[place(x, FAMILIES.len() as u64)];
         let of = |name: &'static str| (0..ONCE).filter(move |&x| family(x) == name).map(make);
         let some = |name: &'static str, holds: fn(&Request) -> bool| {
             assert!(of(name).any(|r| holds(&r)), "{name}")

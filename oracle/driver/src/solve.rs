@@ -98,11 +98,6 @@ impl Conditions {
             word("nan_last", self.nan_last),
         ]
     }
-
-    /// All three conditions at once: no column twice, no NaN among the Ritz values, and they fall.
-    pub fn comparable(&self) -> bool {
-        !self.twice && !self.nan && self.falls
-    }
 }
 
 impl Counts {
