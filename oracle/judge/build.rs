@@ -42,11 +42,7 @@ const INSERTIONS: [Insertion; 6] = [
         side: Side::Before,
         line: "probe::on_pass();",
     },
-    Insertion {
-        anchor: "            refreshed = true;",
-        side: Side::After,
-        line: "probe::on_refreshed();",
-    },
+    Insertion { anchor: "            refreshed = true;", side: Side::After, line: "probe::on_refreshed();" },
     Insertion {
         anchor: "                v.par_chunks_mut(k).for_each(|row| row[c] = T::zero());",
         side: Side::Before,
@@ -64,8 +60,8 @@ fn main() {
     println!("cargo::rerun-if-changed={}", document.display());
     println!("cargo::rustc-env=DOCUMENT_000={}", document.display());
 
-    let text = fs::read_to_string(&document)
-        .unwrap_or_else(|fault| panic!("{}: {fault}", document.display()));
+    let text =
+        fs::read_to_string(&document).unwrap_or_else(|fault| panic!("{}: {fault}", document.display()));
     let copy = recording_copy(&text, &package.join("src").join("probe.rs"));
     let copy_path = out.join("recording.rs");
     write(&copy_path, &copy);
@@ -80,17 +76,12 @@ fn document_000(package: &Path) -> PathBuf {
     };
     let document = folder.join("bhtsne/src/tsne/spectral.rs");
     document.canonicalize().unwrap_or_else(|fault| {
-        panic!(
-            "document 000 is not at {}: {fault}; set BHTSNE_SRC",
-            document.display()
-        )
+        panic!("document 000 is not at {}: {fault}; set BHTSNE_SRC", document.display())
     })
 }
 
 fn modules(document: &Path, copy: &Path) -> String {
-    let module = |name: &str, path: &Path| {
-        format!("#[allow(dead_code)]\n#[path = {path:?}]\nmod {name};\n")
-    };
+    let module = |name: &str, path: &Path| format!("#[allow(dead_code)]\n#[path = {path:?}]\nmod {name};\n");
     module("spectral", document) + &module("recording", copy)
 }
 
@@ -112,10 +103,7 @@ fn only_line(lines: &[String], anchor: &str) -> usize {
     let found: Vec<usize> = (0..lines.len()).filter(|&i| lines[i] == anchor).collect();
     match found[..] {
         [at] => at,
-        _ => panic!(
-            "document 000 has this line {} times, not once: {anchor:?}",
-            found.len()
-        ),
+        _ => panic!("document 000 has this line {} times, not once: {anchor:?}", found.len()),
     }
 }
 

@@ -29,9 +29,8 @@ pub fn request(args: [u64; 5]) -> Result<Request, String> {
         return Err(format!("NUMBER is {number}, not below {NUMBER_LIMIT}"));
     }
     let n = n as usize;
-    let small = |name: &str, x: u64| {
-        usize::try_from(x).map_err(|_| format!("{name} is {x}, which is too large"))
-    };
+    let small =
+        |name: &str, x: u64| usize::try_from(x).map_err(|_| format!("{name} is {x}, which is too large"));
     let columns: Vec<u32> = (0..n).flat_map(|i| row(n, i)).map(|j| j as u32).collect();
     let request = Request {
         d: small("D", d)?,

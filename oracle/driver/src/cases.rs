@@ -2,10 +2,16 @@
 
 use judge::Request;
 
-use crate::{bits, make, runfile, solve};
+use crate::{
+    bits, make,
+    rng::{fraction, splitmix},
+    runfile, solve,
+};
+
+type Build = fn() -> Request;
 
 /// Files that document 01 names, and ones at its limits.
-const NAMED: [(&str, fn() -> Request); 11] = [
+const NAMED: [(&str, Build); 14] = [
     ("sample", sample),
     ("case11", case_11),
     ("case12", case_12),
@@ -16,6 +22,9 @@ const NAMED: [(&str, fn() -> Request); 11] = [
     ("defaults", || Request { rounds: 5, degree: 20, seed_std: 1e-4, ..of_number(224, 2) }),
     ("no-entries64", || no_entries(64, 7)),
     ("minus-zeros", minus_zeros),
+    ("nan-not-last", nan_not_last),
+    ("twice20", || repeated_columns(20)),
+    ("twice21", || repeated_columns(21)),
     ("one-self-link", || Request { d: 7, rounds: 3, degree: 4, ..sample() }),
 ];
 
@@ -110,10 +119,60 @@ fn minus_zeros() -> Request {
     }
 }
 
+/// The Ritz values of the first two rounds are NaN and those of the last are not; found by search.
+fn nan_not_last() -> Request {
+    Request {
+        d: 3,
+        rounds: 3,
+        degree: 3,
+        starts: vec![0, 1, 5, 6, 7],
+        columns: vec![2, 0, 1, 2, 3, 2, 0],
+        values: vec![1e154, 1e200, 1e-12, f64::MAX, -1e308, 1.0, 0.5],
+        ..sample()
+    }
+}
+
+/// Two rows, the first with `len` entries in columns 1 and 0 by turns: one entry more than 20 and the library's
+/// unstable sort leaves the input order of equal columns.
+fn repeated_columns(len: usize) -> Request {
+    let mut values: Vec<f64> = (0..len as u64).map(|e| fraction(splitmix(e))).collect();
+    values.push(0.5);
+    let mut columns: Vec<u32> = (0..len as u32).map(|e| (e + 1) % 2).collect();
+    columns.push(0);
+    Request { starts: vec![0, len, len + 1], columns, values, ..sample() }
+}
+
 #[cfg(test)]
 mod tests {
     use super::*;
-    use crate::solve::Counts;
+    use crate::{big, solve::Counts};
+
+    #[test]
+    fn nan_not_last_is_what_it_is_named_for() {
+        let conditions = solved("nan-not-last").conditions;
+        assert!(conditions.nan && !conditions.nan_last);
+    }
+
+    /// `solve` fails where the recording copy gives other bits than the unchanged text.
+    #[test]
+    fn the_recording_copy_agrees_on_the_whole_list() {
+        for label in labels() {
+            solved(&label);
+        }
+    }
+
+    #[test]
+    fn the_number_of_threads_changes_no_bit() {
+        let big = big::request([9000, 2, 2, 2, 3]).unwrap();
+        let some = ["0", "122", "239", "300", "335"].map(|label| request(label).unwrap());
+        for request in some.iter().chain([&big]) {
+            let plain = bits::join(&judge::seed(request).unwrap());
+            for threads in [1, 2, 5] {
+                let seed = judge::on_threads(threads, || judge::seed(request)).unwrap().unwrap();
+                assert_eq!(bits::join(&seed), plain);
+            }
+        }
+    }
 
     fn solved(label: &str) -> solve::Answer {
         solve::solve(&request(label).unwrap()).unwrap()

@@ -160,7 +160,11 @@ fn condition_counts(runs: &str) -> String {
     }
     let comparable = ["twice=0", "nan=0", "falls=1"];
     let _ = writeln!(text, "  twice=0 nan=0 falls=1: {}", having(&comparable));
-    let _ = writeln!(text, "  twice=0 nan=0 falls=1 empty=0: {}", having(&[&comparable[..], &["empty=0"]].concat()));
+    let _ = writeln!(
+        text,
+        "  twice=0 nan=0 falls=1 empty=0: {}",
+        having(&[&comparable[..], &["empty=0"]].concat())
+    );
     text
 }
 

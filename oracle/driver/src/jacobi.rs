@@ -6,8 +6,7 @@ use crate::{
 };
 
 /// Widths that occur: D + 8 for every D.
-const WIDTHS: std::ops::RangeInclusive<usize> =
-    1 + judge::OVERSAMPLE..=judge::MAX_D + judge::OVERSAMPLE;
+const WIDTHS: std::ops::RangeInclusive<usize> = 1 + judge::OVERSAMPLE..=judge::MAX_D + judge::OVERSAMPLE;
 
 type Fill = fn(&mut Rng, usize) -> Matrix;
 
@@ -23,15 +22,11 @@ pub const KINDS: [(&str, Fill); 15] = [
     ("equal diagonal", |rng, k| Matrix::random(rng, k).each(|p, q, x| if p == q { 0.5 } else { x })),
     ("tiny off the diagonal", tiny_off),
     ("minus zeros", minus_zeros),
-    ("zeros of both signs", |rng, k| {
-        Matrix::random(rng, k).each(|_, _, x| if x < 0.0 { -0.0 } else { 0.0 })
-    }),
+    ("zeros of both signs", |rng, k| Matrix::random(rng, k).each(|_, _, x| if x < 0.0 { -0.0 } else { 0.0 })),
     ("NaN off the diagonal", |rng, k| Matrix::random(rng, k).with(0, k - 1, f64::NAN)),
     ("NaN on the diagonal", |rng, k| Matrix::random(rng, k).with(k / 2, k / 2, f64::NAN)),
     ("infinite off the diagonal", |rng, k| Matrix::random(rng, k).with(1, 2, f64::INFINITY)),
-    ("infinite on the diagonal", |rng, k| {
-        Matrix::random(rng, k).with(k - 1, k - 1, f64::NEG_INFINITY)
-    }),
+    ("infinite on the diagonal", |rng, k| Matrix::random(rng, k).with(k - 1, k - 1, f64::NEG_INFINITY)),
     ("huge", |rng, k| scaled(rng, k, &[1e150, 1e155, 1e300])),
     ("tiny", |rng, k| scaled(rng, k, &[1e-150, 1e-160, 1e-300, 4e-323])),
     ("columns zeroed", columns_zeroed),

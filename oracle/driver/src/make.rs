@@ -350,9 +350,8 @@ mod tests {
     fn families_have_what_they_are_named_for() {
         let family = |x: u64| families()[place(x, FAMILIES.len() as u64)];
         let of = |name: &'static str| (0..ONCE).filter(move |&x| family(x) == name).map(make);
-        let some = |name: &'static str, holds: fn(&Request) -> bool| {
-            assert!(of(name).any(|r| holds(&r)), "{name}")
-        };
+        let some =
+            |name: &'static str, holds: fn(&Request) -> bool| assert!(of(name).any(|r| holds(&r)), "{name}");
         some("empty", |r| r.starts.windows(2).any(|w| w[0] == w[1]));
         some("negative", |r| r.values.iter().any(|&v| v < 0.0));
         some("huge", |r| r.values.iter().any(|&v| v > 1e307));

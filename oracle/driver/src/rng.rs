@@ -76,11 +76,7 @@ impl Rng {
 
 /// Two to the power `e`, `e` from -1074 to 1023.
 pub fn power_of_two(e: i32) -> f64 {
-    if e >= -1022 {
-        f64::from_bits(((e + 1023) as u64) << 52)
-    } else {
-        f64::from_bits(1u64 << (e + 1074))
-    }
+    if e >= -1022 { f64::from_bits(((e + 1023) as u64) << 52) } else { f64::from_bits(1u64 << (e + 1074)) }
 }
 
 #[cfg(test)]

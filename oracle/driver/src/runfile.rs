@@ -33,8 +33,7 @@ pub fn parse(bytes: &[u8]) -> Result<Request, String> {
         d: whole(lines[0]).map_err(|f| at(0, f))?,
         rounds: whole(lines[1]).map_err(|f| at(1, f))?,
         degree: whole(lines[2]).map_err(|f| at(2, f))?,
-        seed_std: bits::parse(lines[3])
-            .ok_or_else(|| at(3, "not 16 lower-case hex digits".to_owned()))?,
+        seed_std: bits::parse(lines[3]).ok_or_else(|| at(3, "not 16 lower-case hex digits".to_owned()))?,
         starts: list(lines[4], MAX_ROWS + 1, whole).map_err(|f| at(4, f))?,
         columns: list(lines[5], MAX_ENTRIES, column).map_err(|f| at(5, f))?,
         values: list(lines[6], MAX_ENTRIES, |text| {
@@ -68,11 +67,7 @@ fn fields(bytes: &[u8]) -> Result<[&str; 7], String> {
     if rest.is_empty() { Ok(out) } else { Err("line 8: extra".to_owned()) }
 }
 
-fn list<T>(
-    text: &str,
-    most: usize,
-    one: impl Fn(&str) -> Result<T, String>,
-) -> Result<Vec<T>, String> {
+fn list<T>(text: &str, most: usize, one: impl Fn(&str) -> Result<T, String>) -> Result<Vec<T>, String> {
     if text.is_empty() {
         return Ok(Vec::new());
     }

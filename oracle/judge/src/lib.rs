@@ -64,11 +64,7 @@ impl Request {
             return Some("starts has fewer than two numbers".to_owned());
         }
         if self.columns.len() != self.values.len() {
-            return Some(format!(
-                "{} columns but {} values",
-                self.columns.len(),
-                self.values.len()
-            ));
+            return Some(format!("{} columns but {} values", self.columns.len(), self.values.len()));
         }
         if self.starts[0] != 0 {
             return Some("the first start is not 0".to_owned());
@@ -97,10 +93,8 @@ macro_rules! by_dimension {
         if let Some(fault) = request.fault() {
             return Err(fault);
         }
-        let params = SpectralParams::new()
-            .rounds(request.rounds)
-            .degree(request.degree)
-            .seed_std(request.seed_std);
+        let params =
+            SpectralParams::new().rounds(request.rounds).degree(request.degree).seed_std(request.seed_std);
         let (starts, columns, values) = (&request.starts, &request.columns, &request.values);
         match request.d {
             1 => Ok(spectral_embedding::<f64, 1>(starts, columns, values, params)),
@@ -132,10 +126,7 @@ fn recorded_seed(request: &Request) -> Result<Vec<f64>, String> {
 }
 
 /// Runs `work` on a pool of that many threads, so that a test can show that the number does not matter.
-pub fn on_threads<R: Send>(
-    threads: usize,
-    work: impl FnOnce() -> R + Send,
-) -> Result<R, String> {
+pub fn on_threads<R: Send>(threads: usize, work: impl FnOnce() -> R + Send) -> Result<R, String> {
     let pool = rayon::ThreadPoolBuilder::new()
         .num_threads(threads)
         .build()
@@ -149,10 +140,7 @@ mod tests {
 
     #[test]
     fn copy_without_its_inserted_lines_is_document_000() {
-        let kept: Vec<&str> = RECORDING_COPY
-            .lines()
-            .filter(|line| !line.starts_with("/*probe*/ "))
-            .collect();
+        let kept: Vec<&str> = RECORDING_COPY.lines().filter(|line| !line.starts_with("/*probe*/ ")).collect();
         let inserted = RECORDING_COPY.lines().count() - kept.len();
         assert_eq!(inserted, 7);
         assert_eq!(kept, DOCUMENT_000.lines().collect::<Vec<_>>());

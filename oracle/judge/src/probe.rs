@@ -55,10 +55,7 @@ pub(super) fn on_v0<T: Float>(v0: &[T]) {
 }
 
 pub(super) fn on_round<T: Float>(bound: T, ritz: impl Iterator<Item = T>) {
-    let round = Round {
-        bound: wide(bound),
-        ritz: ritz.map(wide).collect(),
-    };
+    let round = Round { bound: wide(bound), ritz: ritz.map(wide).collect() };
     note(|record| record.rounds.push(round));
 }
 
