@@ -217,17 +217,18 @@ filter-unitary f op b h m v = passes-unitary f op b h m (firstPass (ieee f) op b
 
 -- ---- every bound of the rounds
 
-module _ (f : Format) (d : ℕ) (params : Params) (n : ℕ) (op : Operator (ieee f)) (v0 : Vector (ieee f)) where
-  pub after-bounded : (round : ℕ) (b : Float) (value : Vector (ieee f)) (order : List ℕ) → Bounded f b → Bounded f (boundAfter (ieee f) d params n op v0 round b value order)
-  unfolding boundAfter
-  after-bounded round b value order h = go (ltb (round + 1) (params .rounds))
-    where
-      go : (t : Bool) → Bounded f (cond t (nextBound (ieee f) (cutValue (ieee f) d params n op v0 value order)) b)
-      go true = bound-within f (cutValue (ieee f) d params n op v0 value order)
-      go false = h
+pub after-bounded : (f : Format) (d rounds round : ℕ) (b : Float) (value : Vector (ieee f)) (order : List ℕ) → Bounded f b
+    → Bounded f (boundAfter (ieee f) d rounds round b value order)
+unfolding boundAfter
+after-bounded f d rounds round b value order h = go (ltb (round + 1) rounds)
+  where
+    go : (t : Bool) → Bounded f (cond t (nextBound (ieee f) (cutValue (ieee f) d value order)) b)
+    go true = bound-within f (cutValue (ieee f) d value order)
+    go false = h
 
+module _ (f : Format) (d : ℕ) (params : Params) (n : ℕ) (op : Operator (ieee f)) (v0 : Vector (ieee f)) where
   pub rounds-bounded : (m round : ℕ) (s : Solving (ieee f)) → Bounded f (s .bound) → Bounded f (roundsFrom (ieee f) d params n op v0 m round s .bound)
   unfolding roundsFrom roundStep ritzStep
   rounds-bounded zero round s h = h
   rounds-bounded (suc m) round s h =
-      rounds-bounded m (suc round) (roundStep (ieee f) d params n op v0 round s) (after-bounded round (s .bound) _ _ h)
+      rounds-bounded m (suc round) (roundStep (ieee f) d params n op v0 round s) (after-bounded f d (params .rounds) round (s .bound) _ _ h)

@@ -89,12 +89,26 @@ module _ (A : Arith) where
   unfoldable pub nextBound : A .F → A .F
   nextBound x = cond (A .lt (A .boundLeast) x) (cond (A .lt x (A .boundMost)) x (A .boundMost)) (A .boundLeast)
 
+  -- the value at place D + 1, counted from 0
+  unfoldable pub cutValue : ℕ → Vector A → List ℕ → A .F
+  cutValue d value order = value (getD order (d + 1) 0)
+
+  -- unless it is the last round
+  unfoldable pub boundAfter : ℕ → ℕ → ℕ → A .F → Vector A → List ℕ → A .F
+  boundAfter d rounds round b value order = cond (ltb (round + 1) rounds) (nextBound (cutValue d value order)) b
+
   -- ---- rounds
   pub record Solving : Type 0 where
     pub basis : Basis A
     pub bound : A .F
     pub vectors : Matrix A
     pub order : List ℕ
+
+  -- the round's end: the Ritz order and the next bound
+  unfoldable pub ritzStep : ℕ → ℕ → ℕ → A .F → Basis A → Eigen A → Solving
+  ritzStep d rounds round b basis e =
+      let order = ritzOrder (width d) (ritzValue (e .matrix)) in
+      record { basis = basis; bound = boundAfter d rounds round b (ritzValue (e .matrix)) order; vectors = e .vectors; order = order }
 
   -- dimensions, rounds and degree, n rows, the operator and v0
   module _ (d : ℕ) (params : Params) (n : ℕ) (op : Operator A) (v0 : Vector A) where
@@ -113,21 +127,8 @@ module _ (A : Arith) where
     unfoldable pub roundEigen : Block A → Eigen A
     roundEigen v = jacobiEigen A (width d) (symmetrized A (products n v (matvecCombine A op plainMultipliers v v)))
 
-    -- the value at place D + 1, counted from 0
-    unfoldable pub cutValue : Vector A → List ℕ → A .F
-    cutValue value order = value (getD order (d + 1) 0)
-
-    -- unless it is the last round
-    unfoldable pub boundAfter : ℕ → A .F → Vector A → List ℕ → A .F
-    boundAfter round b value order = cond (ltb (round + 1) (params .rounds)) (nextBound (cutValue value order)) b
-
-    unfoldable pub ritzStep : ℕ → A .F → Basis A → Eigen A → Solving
-    ritzStep round b basis e =
-        let order = ritzOrder (width d) (ritzValue (e .matrix)) in
-        record { basis = basis; bound = boundAfter round b (ritzValue (e .matrix)) order; vectors = e .vectors; order = order }
-
     unfoldable pub roundStep : ℕ → Solving → Solving
-    roundStep round s = ritzStep round (s .bound) (roundBasis round s) (roundEigen (roundBasis round s .block))
+    roundStep round s = ritzStep d (params .rounds) round (s .bound) (roundBasis round s) (roundEigen (roundBasis round s .block))
 
     -- m rounds from a round on
     unfoldable pub roundsFrom : ℕ → ℕ → Solving → Solving

@@ -31,6 +31,9 @@ module _ (A : Arith) where
   unfoldable pub projected : ℕ → Vector A → ℕ → Block A → Block A
   projected n v0 c v = subtracted (dots n v0 v c) v0 v c
 
+  unfoldable pub twiceProjected : ℕ → Vector A → ℕ → Block A → Block A
+  twiceProjected n v0 c v = projected n v0 c (projected n v0 c v)
+
   -- the ends of an attempt at a column
   pub data Ending : Type 0 where
     kept : A .F → Ending
@@ -39,6 +42,9 @@ module _ (A : Arith) where
   -- kept if norm > before x 2^-26; otherwise once refreshed; otherwise zeroed
   unfoldable pub ending : A .F → A .F → Bool → Ending
   ending before norm already = cond (A .lt (A .mul before (A .collapse)) norm) (kept norm) (cond already zeroed refreshed)
+
+  unfoldable pub attemptEnding : ℕ → Vector A → Bool → ℕ → Block A → Ending
+  attemptEnding n v0 already c v = ending (columnNorm A n v c) (columnNorm A n (twiceProjected n v0 c v) c) already
 
   unfoldable pub written : ℕ → ℕ → ℕ → ℕ → Ending → Block A → Block A
   written n k round c (kept norm) v = withColumn v c (λ i. A .div (v i c) norm)
@@ -63,22 +69,16 @@ module _ (A : Arith) where
 
   -- n rows, k columns, v0 and the round
   module _ (n k : ℕ) (v0 : Vector A) (round : ℕ) where
-    unfoldable pub twiceProjected : ℕ → Block A → Block A
-    twiceProjected c v = projected n v0 c (projected n v0 c v)
-
-    unfoldable pub attemptEnding : Bool → ℕ → Block A → Ending
-    attemptEnding already c v = ending (columnNorm A n v c) (columnNorm A n (twiceProjected c v) c) already
-
     -- the column written as it ends, and the counts raised
     unfoldable pub ended : Ending → ℕ → Basis → Basis
     ended end c s = record {
-      block = written n k round c end (twiceProjected c (s .block));
+      block = written n k round c end (twiceProjected n v0 c (s .block));
       refreshed = raisedRefreshed end (s .refreshed);
       zeroed = raisedZeroed end (s .zeroed);
     }
 
     unfoldable pub attempt : Bool → ℕ → Basis → Basis
-    attempt already c s = ended (attemptEnding already c (s .block)) c s
+    attempt already c s = ended (attemptEnding n v0 already c (s .block)) c s
 
     -- a refreshed column is tried again
     unfoldable pub triedAgain : Ending → ℕ → Basis → Basis
@@ -87,7 +87,7 @@ module _ (A : Arith) where
     triedAgain zeroed c s = s
 
     unfoldable pub columnStep : ℕ → Basis → Basis
-    columnStep c s = triedAgain (attemptEnding false c (s .block)) c (attempt false c s)
+    columnStep c s = triedAgain (attemptEnding n v0 false c (s .block)) c (attempt false c s)
 
     -- m columns from column c on
     unfoldable pub columnsFrom : ℕ → ℕ → Basis → Basis

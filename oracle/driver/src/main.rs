@@ -23,6 +23,7 @@ oracle: answers of document 000 (bhtsne's spectral.rs), compiled unchanged
   oracle run < FILE         the seed of a run file: one row= line a row
   oracle counts < FILE      passes, refreshed, zeroed, isolated of that run
   oracle conditions < FILE  twice, nan, falls, empty, nan_last, each 0 or 1
+  oracle rounds < FILE      each round's bound and Ritz values
   oracle make LABEL         a run file made from a number, or a named one
   oracle case LABEL         that file with conditions, counts and seed, as stored
   oracle big N NUMBER D ROUNDS DEGREE
@@ -70,8 +71,9 @@ fn text(words: &[&str]) -> Result<String, String> {
             let request = runfile::read(io::stdin())?;
             Ok(bits::rows(&judge::seed(&request)?, request.d))
         }
-        ["counts"] => Ok(lines(&solve::solve(&runfile::read(io::stdin())?)?.counts.words())),
-        ["conditions"] => Ok(lines(&solve::solve(&runfile::read(io::stdin())?)?.conditions.words())),
+        ["counts"] => Ok(lines(&solved()?.counts.words())),
+        ["conditions"] => Ok(lines(&solved()?.conditions.words())),
+        ["rounds"] => Ok(lines(&solved()?.rounds())),
         ["make", label] => Ok(runfile::print(&cases::request(label)?)),
         ["case", label] => cases::block(label),
         ["big", rest @ ..] => big::answer(big_args(rest)?),
@@ -83,6 +85,10 @@ fn text(words: &[&str]) -> Result<String, String> {
         [] => Err("no command; see oracle --help".to_owned()),
         [first, ..] => Err(format!("{first}: unknown, or not its arguments; see oracle --help")),
     }
+}
+
+fn solved() -> Result<solve::Answer, String> {
+    solve::solve(&runfile::read(io::stdin())?)
 }
 
 fn lines(words: &[String]) -> String {

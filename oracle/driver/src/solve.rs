@@ -2,7 +2,7 @@
 
 use std::collections::HashSet;
 
-use judge::{Record, Request};
+use judge::{Record, Request, Round};
 
 use crate::bits;
 
@@ -34,6 +34,7 @@ pub struct Answer {
     pub seed: Vec<f64>,
     pub conditions: Conditions,
     pub counts: Counts,
+    rounds: Vec<Round>,
 }
 
 /// Asks both texts; they must agree in every bit, or what the copy recorded says nothing about the seed.
@@ -108,6 +109,12 @@ impl Counts {
 }
 
 impl Answer {
+    /// A line a round: the bound that its filter used, and its Ritz values in document 000's order.
+    pub fn rounds(&self) -> Vec<String> {
+        let line = |r: &Round| format!("bound={} ritz={}", bits::join(&[r.bound]), bits::join(&r.ritz));
+        self.rounds.iter().map(line).collect()
+    }
+
     /// Conditions and counts on one line.
     pub fn summary(&self) -> String {
         [&self.conditions.words()[..], &self.counts.words()[..]].concat().join(" ")

@@ -53,7 +53,7 @@ fn bad_run_files_are_refused_with_a_message() {
         [good.as_bytes(), b"\n"].concat(),
     ];
     for file in bad {
-        for command in ["run", "counts", "conditions"] {
+        for command in ["run", "counts", "conditions", "rounds"] {
             let out = oracle(&[command], &file);
             let told = String::from_utf8_lossy(&out.stderr).into_owned();
             assert_eq!(out.status.code(), Some(2), "{told}");
