@@ -10,8 +10,12 @@ use crate::{
     solve,
 };
 
-/// Each row is linked with this many rows on either side.
+/// A ring links each row with this many rows on either side.
 const REACH: usize = 4;
+
+/// Numbers that are multiples of four make hubs: each row after the first four is linked with two of those four.
+/// So few directions carry weight that a strong filter makes columns collapse, which a ring does not.
+const HUBS: usize = 4;
 
 /// A row, a column and the number must each keep to its own bits of the hashed index.
 const ROW_BITS: u32 = 20;
@@ -31,27 +35,39 @@ pub fn request(args: [u64; 5]) -> Result<Request, String> {
     let n = n as usize;
     let small =
         |name: &str, x: u64| usize::try_from(x).map_err(|_| format!("{name} is {x}, which is too large"));
-    let columns: Vec<u32> = (0..n).flat_map(|i| row(n, i)).map(|j| j as u32).collect();
+    let rows: Vec<Vec<usize>> = match number % 4 {
+        0 => (0..n).map(|i| hub_row(n, i)).collect(),
+        _ => (0..n).map(|i| ring_row(n, i)).collect(),
+    };
+    let entries = || rows.iter().enumerate().flat_map(|(i, row)| row.iter().map(move |&j| (i, j)));
     let request = Request {
         d: small("D", d)?,
         rounds: small("ROUNDS", rounds)?,
         degree: small("DEGREE", degree)?,
         seed_std: 1e-4,
-        starts: (0..=n).map(|i| i * 2 * REACH).collect(),
-        values: values(&columns, number),
-        columns,
+        starts: starts(&rows),
+        columns: entries().map(|(_, j)| j as u32).collect(),
+        values: entries().map(|(i, j)| weight(number, i as u64, j as u64)).collect(),
     };
     request.fault().map_or(Ok(request), Err)
 }
 
 /// Near before far and up before down, so the columns do not rise and the port's sort has work.
-fn row(n: usize, i: usize) -> impl Iterator<Item = usize> {
-    (1..=REACH).flat_map(move |s| [(i + s) % n, (i + n - s) % n])
+fn ring_row(n: usize, i: usize) -> Vec<usize> {
+    (1..=REACH).flat_map(|s| [(i + s) % n, (i + n - s) % n]).collect()
 }
 
-fn values(columns: &[u32], number: u64) -> Vec<f64> {
-    let value = |(e, &j): (usize, &u32)| weight(number, (e / (2 * REACH)) as u64, u64::from(j));
-    columns.iter().enumerate().map(value).collect()
+fn hub_row(n: usize, i: usize) -> Vec<usize> {
+    let hubs = |j: usize| [(j + 1) % HUBS, j % HUBS];
+    if i < HUBS { (HUBS..n).filter(|&j| hubs(j).contains(&i)).collect() } else { hubs(i).to_vec() }
+}
+
+fn starts(rows: &[Vec<usize>]) -> Vec<usize> {
+    let mut starts = vec![0];
+    for row in rows {
+        starts.push(starts[starts.len() - 1] + row.len());
+    }
+    starts
 }
 
 /// In [0, 1), the same for (i, j) and (j, i).
@@ -87,8 +103,8 @@ mod tests {
 
     #[test]
     fn the_graph_is_symmetric_and_names_no_column_twice() {
-        for n in [9, 10, 64] {
-            let r = request([n, 5, 1, 1, 1]).unwrap();
+        for (n, number) in [(9, 5), (10, 5), (64, 5), (9, 4), (64, 4)] {
+            let r = request([n, number, 1, 1, 1]).unwrap();
             let value = |i: usize, j: usize| {
                 let mut at = r.row(i).filter(|&e| r.columns[e] as usize == j);
                 let found = at.next().map(|e| r.values[e].to_bits());

@@ -23,22 +23,25 @@ const NAMED: [(&str, Build); 14] = [
     ("no-entries64", || no_entries(64, 7)),
     ("minus-zeros", minus_zeros),
     ("nan-not-last", nan_not_last),
-    ("twice20", || repeated_columns(20)),
-    ("twice21", || repeated_columns(21)),
+    ("twice32", || repeated_columns(32)),
+    ("twice33", || repeated_columns(33)),
     ("one-self-link", || Request { d: 7, rounds: 3, degree: 4, ..sample() }),
 ];
 
 /// Multi-chunk graphs: rows, number, D, rounds, degree.
-pub const BIG: [[u64; 5]; 9] = [
+pub const BIG: [[u64; 5]; 12] = [
     [4096, 1, 1, 1, 1],
     [4096, 2, 2, 2, 3],
     [4096, 3, 7, 1, 2],
+    [4096, 4, 2, 1, 30],
     [4097, 1, 1, 1, 1],
     [4097, 2, 2, 2, 3],
     [4097, 3, 7, 1, 2],
+    [4097, 4, 1, 2, 30],
     [9000, 1, 1, 1, 1],
     [9000, 2, 2, 2, 3],
-    [9000, 4, 3, 3, 5],
+    [9000, 3, 3, 3, 5],
+    [9000, 4, 3, 2, 30],
 ];
 
 /// Every label of the fixed list, in the stored order.
@@ -132,14 +135,16 @@ fn nan_not_last() -> Request {
     }
 }
 
-/// Two rows, the first with `len` entries in columns 1 and 0 by turns: one entry more than 20 and the library's
+/// Four rows of `len` entries each, columns falling round and round: with one entry more than 32 this library's
 /// unstable sort leaves the input order of equal columns.
 fn repeated_columns(len: usize) -> Request {
-    let mut values: Vec<f64> = (0..len as u64).map(|e| fraction(splitmix(e))).collect();
-    values.push(0.5);
-    let mut columns: Vec<u32> = (0..len as u32).map(|e| (e + 1) % 2).collect();
-    columns.push(0);
-    Request { starts: vec![0, len, len + 1], columns, values, ..sample() }
+    let n = 4;
+    Request {
+        starts: (0..=n).map(|i| i * len).collect(),
+        columns: (0..n * len).map(|e| (n - 1 - e % n) as u32).collect(),
+        values: (0..n * len).map(|e| fraction(splitmix(e as u64))).collect(),
+        ..sample()
+    }
 }
 
 #[cfg(test)]

@@ -219,7 +219,7 @@ fn often_minus_zero(rng: &mut Rng) -> f64 {
     if rng.once_in(3) { -0.0 } else { rng.weight() }
 }
 
-/// Symmetric, but each row's columns stand in any order; half of the graphs have rows of more than 20 entries.
+/// Symmetric, but each row's columns stand in any order; half of the graphs are full.
 fn shuffled(rng: &mut Rng, n: usize) -> Rows {
     let links = if rng.once_in(2) { dense(rng, n.min(32)) } else { neighbours(rng, n) };
     let mut rows = sorted(links);
@@ -358,7 +358,7 @@ mod tests {
         some("tiny", |r| r.values.iter().any(|&v| v > 0.0 && v < f64::MIN_POSITIVE));
         some("minus-zero", |r| r.values.iter().any(|v| *v == 0.0 && v.is_sign_negative()));
         some("shuffled", |r| r.columns[r.row(0)].windows(2).any(|w| w[0] > w[1]));
-        some("twice", |r| r.row(0).len() > 20);
+        some("twice", |r| r.row(0).len() > 32);
         some("dense", |r| r.values.len() == MAX_ENTRIES);
     }
 

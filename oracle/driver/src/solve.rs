@@ -44,7 +44,12 @@ pub fn solve(request: &Request) -> Result<Answer, String> {
     if bits::join(&seed) != bits::join(&copied) {
         return Err("the recording copy gives other bits than document 000".to_owned());
     }
-    Ok(Answer { seed, conditions: conditions(request, &record), counts: counts(request, &record) })
+    Ok(Answer {
+        seed,
+        conditions: conditions(request, &record),
+        counts: counts(request, &record),
+        rounds: record.rounds,
+    })
 }
 
 fn conditions(request: &Request, record: &Record) -> Conditions {
