@@ -1,0 +1,3 @@
+-- The laws of the reductions.
+pub mod Partials
+pub mod Closing

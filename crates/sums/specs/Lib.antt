@@ -1,0 +1,2 @@
+-- What the contracts cite beyond document 01.
+pub mod Accumulators
