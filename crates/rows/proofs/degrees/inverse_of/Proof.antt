@@ -1,0 +1,16 @@
+-- `rows::degrees::inverse_of` meets its contract. Assumes nothing.
+use lib.Ieee.{ofBits}
+use Rattle.definition.specs.SpectralEmbedding.{inverseOf}
+use Rattle.rows.proofs.degrees.inverse_of.Statement.{statement}
+use Rattle.rows.proofs.degrees.inverse_of.Tie as tie
+
+returns : tie.Need-returns
+unfolding inverseOf ofBits
+returns c = simp (c .if1 .taken)
+
+returns-2 : tie.Need-returns-2
+unfolding inverseOf ofBits
+returns-2 c = simp (c .if1 .left)
+
+pub inverse-of-spec : {M : Type 1} → statement M
+inverse-of-spec = tie.close (tie.spec returns returns-2)
