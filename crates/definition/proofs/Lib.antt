@@ -5,6 +5,7 @@ pub mod Fill
 pub mod Places
 pub mod Chunks
 pub mod Rows
+pub mod First
 pub mod Arranged
 pub mod FloatOrder
 pub mod Exactly

@@ -13,7 +13,7 @@ use Rattle.definition.specs.Arith.{Arith, isFinite}
 use Rattle.definition.specs.Numbers.{Params, dimsMost, rowsMost, entriesMost, roundsMost, degreeMost, lentSize, lentCount}
 use Rattle.definition.specs.Refusals.{Verdict, given, givenFirst, firstFrom, within, falls, orElse, testDims, testRows, testLimits, testLengths, testStarts, testColumns, testValues, testRounds, testDegree, testSeedStd, testLent, testParams, testGraph, testRequest}
 use Rattle.input.specs.Valid.{ValidParams, ValidGraph, ValidRequest}
-use Rattle.input.proofs.First.{first-all}
+use Rattle.definition.proofs.First.{first-all}
 
 -- ---- a test that passes, and two tests that pass
 no-fault : (fault : Bool) (r p : ℕ) → given fault (suc r) p .number ≡ 0 → fault ≡ false

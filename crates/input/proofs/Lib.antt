@@ -1,6 +1,5 @@
 -- The laws that the functions' proofs cite.
 pub mod Flags
-pub mod First
 pub mod Verdicts
 pub mod Accepted
 pub mod Isolated

@@ -5,7 +5,7 @@ use Prim.Native.Nat.{ℕ}
 use Rattle.definition.specs.Memory.{wholesOf}
 use Rattle.definition.specs.Refusals.{firstFrom, testLent}
 use Rattle.input.specs.Said.{short}
-use Rattle.input.proofs.First.{given-first}
+use Rattle.definition.proofs.First.{given-first}
 use borrow.Author.Needs.{needs}
 use Rattle.input.proofs.request.test_lent.Statement.{statement}
 use Rattle.input.proofs.request.test_lent.Tie as tie

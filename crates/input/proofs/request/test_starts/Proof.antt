@@ -6,7 +6,7 @@ use lib.Dec.{eqb}
 use lib.ListN.{length, getD}
 use Rattle.definition.specs.Refusals.{given, givenFirst, falls, testStarts}
 use Rattle.input.specs.Said.{verdictOf}
-use Rattle.input.proofs.First.{given-first}
+use Rattle.definition.proofs.First.{given-first}
 use Rattle.input.proofs.Verdicts.{refuses, goes-on}
 use borrow.Author.Needs.{needs}
 use Rattle.input.proofs.request.test_starts.Statement.{statement}

@@ -2,7 +2,7 @@
 use mathlib.Core.Path.{_∙_}
 use native.Mathlib.Omega.{arith}
 use Rattle.definition.specs.Refusals.{testValues}
-use Rattle.input.proofs.First.{given-first}
+use Rattle.definition.proofs.First.{given-first}
 use borrow.Author.Needs.{needs}
 use Rattle.input.proofs.request.test_values.Statement.{statement}
 use Rattle.input.proofs.request.test_values.Tie as tie

@@ -5,7 +5,7 @@ use native.Mathlib.Omega.{arith}
 use lib.ListN.{length}
 use borrow.Author.Tests.{lt-ltb, le-ltb}
 use Rattle.definition.specs.Refusals.{firstFrom, falls}
-use Rattle.input.proofs.First.{first-here, first-later, first-none}
+use Rattle.definition.proofs.First.{first-here, first-later, first-none}
 use Rattle.input.proofs.scan.first_fall.Statement.{statement}
 use Rattle.input.proofs.scan.first_fall.Tie as tie
 

@@ -6,7 +6,7 @@ use lib.ListN.{length}
 use borrow.Author.Tests.{le-leb, lt-leb}
 use Rattle.definition.specs.Refusals.{firstFrom}
 use Rattle.input.specs.Said.{high}
-use Rattle.input.proofs.First.{first-start, first-here, first-later, first-none}
+use Rattle.definition.proofs.First.{first-start, first-here, first-later, first-none}
 use Rattle.input.proofs.scan.first_high_column.Statement.{statement}
 use Rattle.input.proofs.scan.first_high_column.Tie as tie
 

@@ -6,7 +6,7 @@ use borrow.Author.Tests.{lt-ltb, le-ltb}
 use Rattle.definition.specs.Memory.{wholesOf}
 use Rattle.definition.specs.Refusals.{firstFrom}
 use Rattle.input.specs.Said.{short}
-use Rattle.input.proofs.First.{first-here, first-later, first-none}
+use Rattle.definition.proofs.First.{first-here, first-later, first-none}
 use Rattle.input.proofs.scan.first_short.Statement.{statement}
 use Rattle.input.proofs.scan.first_short.Tie as tie
 

@@ -7,7 +7,7 @@ use borrow.Author.Needs.{needs}
 use lib.ListN.{length}
 use Rattle.definition.specs.Refusals.{firstFrom}
 use Rattle.input.specs.Said.{unfinite}
-use Rattle.input.proofs.First.{first-start, first-here, first-later, first-none}
+use Rattle.definition.proofs.First.{first-start, first-here, first-later, first-none}
 use Rattle.input.proofs.scan.first_unfinite.Statement.{statement}
 use Rattle.input.proofs.scan.first_unfinite.Tie as tie
 

@@ -47,3 +47,11 @@ pub first-all : (f : ℕ → Bool) (a m i : ℕ) → a + m ≤ firstFrom f a m �
 unfolding firstFrom
 first-all f a zero i h p q = absurd (omega arith)
 first-all f a (suc m) i h p q = next-all f a m i (f a) refl h p (λ g l. first-all f (suc a) m i g l (omega arith))
+
+-- and where no place has a fault, none is found
+pub all-first : (f : ℕ → Bool) (a m : ℕ) → ((i : ℕ) → a ≤ i → i < a + m → f i ≡ false) → firstFrom f a m ≡ a + m
+unfolding firstFrom
+all-first f a zero h = omega arith
+all-first f a (suc m) h =
+    ap (λ (b : Bool). cond b a (firstFrom f (suc a) m)) (h a (omega arith) (omega arith))
+    ∙ all-first f (suc a) m (λ i p q. h i (omega arith) (omega arith)) ∙ omega arith
