@@ -4,6 +4,8 @@ pub mod Sums
 pub mod Fill
 pub mod Places
 pub mod Chunks
+pub mod Parts
+pub mod Blocks
 pub mod Rows
 pub mod First
 pub mod Arranged

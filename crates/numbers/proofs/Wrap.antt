@@ -1,10 +1,10 @@
 -- The lower 64 bits of a product, by halves of 32 bits. Assumes nothing.
 use mathlib.Core.Path.{_≡_, refl, sym, ap, _∙_}
 use Prim.Native.Nat.{ℕ, _+_, _*_, _/_, _%_, _^_, _<_}
-use native.Mathlib.Nat.{mod-lt, le-of-lt, lt-of-le-of-lt, mul-le-mul-left, add-mul-mod-self-right, mod-add-mod, div-add-mod'}
+use native.Mathlib.Nat.{le-of-lt, lt-of-le-of-lt, mul-le-mul-left, add-mul-mod-self-right, mod-add-mod, div-add-mod'}
 use native.Mathlib.Omega.{arith}
 use Rattle.definition.specs.SplitmixUnit.{wrapMul}
-use lib.Pow.{pow-pos, shl-lt}
+use lib.Pow.{shl-lt}
 
 pub half-product : (a b : ℕ) → a < 2 ^ 32 → b < 2 ^ 32 → a * b < 2 ^ 64
 half-product a b h k = lt-of-le-of-lt (mul-le-mul-left a (le-of-lt k)) (shl-lt 32 32 h)

@@ -24,11 +24,19 @@ pub record Radicand (sig e a : ℕ) : Type 0 where
   pub most : a + 2 ≤ 2 ^ 54
   pub value : a * 2 ^ 52 * 2 ^ (2 * (e / 2 - 26)) ≡ sig * 2 ^ e
 
--- q and r are the root of a * 2 ^ 52 without its fraction, and what its square leaves
-pub record Floored (a q r : ℕ) : Type 0 where
-  pub whole : q * q + r ≡ a * 2 ^ 52
+-- q and r are the root of x without its fraction, and what its square leaves
+pub record Floored (x q r : ℕ) : Type 0 where
+  pub whole : q * q + r ≡ x
   pub rest : r ≤ 2 * q
-  pub few : q < 2 ^ 53
+
+-- a root s of at most 27 digits, with the rest r, that one division makes longer by the digits of a base: those of s are no fewer
+pub record Lengthens (s r base low : ℕ) : Type 0 where
+  pub rest : r ≤ 2 * s
+  pub few : s < 2 ^ 27
+  pub some : 0 < base
+  pub most : base ≤ 2 ^ 26
+  pub no-more : base ≤ 2 * s
+  pub below : low < base * base
 
 -- r is the pattern of the root of the value of the bits
 pub record Patterned (bits r : ℕ) : Type 0 where

@@ -1,113 +1,17 @@
-// The numbers of the seed: root, start hash, bound. Each function equals its definition on every input.
+// The numbers of the seed. Each public function equals its definition on every input.
+mod exports; // the functions that C and Rust call by name
+mod pattern; // the root on bit patterns
+mod whole; // the root of whole numbers
+
 ghost use mathlib.Core.Path.{_≡_};
-ghost use Prim.Native.Nat.{_+_, _*_, _^_, _≤_, _<_};
 ghost use lib.Ieee.{binary64};
 ghost use Rattle.definition.specs.Arith.{ieee64};
-ghost use Rattle.definition.specs.Root.{Nearest, rootOf};
+ghost use Rattle.definition.specs.Root.{rootOf};
 ghost use Rattle.definition.specs.SplitmixUnit.{wrapMul, splitmixUnit};
-ghost use Rattle.definition.specs.ChebyshevRayleighRitz.{nextBound};
-ghost use Rattle.numbers.specs.Steps.{Normal, Split, Radicand, Floored, Patterned};
-
-// A finite value above zero: sig * 2^exp squares of the smallest f64, which are 2^-2148.
-pub struct Scaled {
-    pub sig: u64,
-    pub exp: u64,
-}
-
-// A whole-number root and what its square leaves.
-pub struct Whole {
-    pub root: u64,
-    pub rest: u64,
-}
-
-// A subnormal's significand, shifted up by its leading zeros until it has 53 digits.
-fn shifted_up(t: u64) -> Scaled
-    requires { ⌜ (0 < t) × (t < 2 ^ 52) ⌝ }
-    ensures { λ r. ⌜ Normal (r .sig) (r .exp) ⌝ }
-    ensures { λ r. ⌜ r .sig * 2 ^ (r .exp) ≡ t * 2 ^ 1074 ⌝ }
-{
-    let zeros = u64::leading_zeros(t);
-    let shift = zeros - 11;
-    let wide = shift as u64;
-    Scaled {
-        sig: t << shift,
-        exp: 1074 - wide,
-    }
-}
-
-// The significand and the exponent of a pattern above 0 and below infinity's.
-fn parts(bits: u64) -> Scaled
-    requires { ⌜ (0 < bits) × (bits < 0x7ff0_0000_0000_0000) ⌝ }
-    ensures { λ r. ⌜ Split bits (r .sig) (r .exp) ⌝ }
-{
-    let field = bits / 0x10_0000_0000_0000;
-    let t = bits % 0x10_0000_0000_0000;
-    if field == 0 {
-        shifted_up(t)
-    } else {
-        Scaled {
-            sig: t + 0x10_0000_0000_0000,
-            exp: field + 1073,
-        }
-    }
-}
-
-// With an even power of two taken out, sig * 2^exp is a * 2^52, whose root has 53 digits.
-fn radicand(sig: u64, exp: u64) -> u64
-    requires { ⌜ Normal sig exp ⌝ }
-    ensures { λ a. ⌜ Radicand sig exp a ⌝ }
-{
-    if exp % 2 == 0 { sig } else { sig * 2 }
-}
-
-// The 53 digits of the root of a * 2^52, and the remainder. Each turn brings two bits of the
-// radicand down; the remainder stays below 2^57.
-fn digits(a: u64) -> Whole
-    requires { ⌜ a < 2 ^ 54 ⌝ }
-    ensures { λ r. ⌜ Floored a (r .root) (r .rest) ⌝ }
-{
-    let mut bits = a;
-    let mut q: u64 = 0;
-    let mut r: u64 = 0;
-    let mut i: u64 = 0;
-    while i < 53 {
-        let t = r * 4 + bits / 0x10_0000_0000_0000;
-        let s = q * 4 + 1;
-        bits = bits % 0x10_0000_0000_0000 * 4;
-        let mut less: u64 = 0;
-        let mut digit: u64 = 0;
-        if s <= t {
-            less = s;
-            digit = 1;
-        }
-        r = t - less;
-        q = q * 2 + digit;
-        i += 1;
-    }
-    Whole { root: q, rest: r }
-}
-
-// The whole number nearest to the root of q * q + r.
-fn nearest(q: u64, r: u64) -> u64
-    requires { ⌜ (0 < q) × (q < 2 ^ 53) × (r ≤ 2 * q) ⌝ }
-    ensures { λ n. ⌜ Nearest (q * q + r) n ⌝ }
-{
-    if r > q { q + 1 } else { q }
-}
-
-// The pattern of the root of a pattern's value.
-fn root_bits(bits: u64) -> u64
-    requires { ⌜ (0 < bits) × (bits < 0x7ff0_0000_0000_0000) ⌝ }
-    ensures { λ r. ⌜ Patterned bits r ⌝ }
-{
-    let p = parts(bits);
-    let sig = p.sig;
-    let exp = p.exp;
-    let a = radicand(sig, exp);
-    let d = digits(a);
-    let n = nearest(d.root, d.rest);
-    (exp / 2 - 26) * 0x10_0000_0000_0000 + n
-}
+ghost use Rattle.definition.specs.ChebyshevRayleighRitz.{nextBound, firstAlpha, nextAlpha, firstMultipliers, laterMultipliers, plainMultipliers};
+ghost use Rattle.definition.specs.OrthonormalizeBlock.{ending};
+ghost use Rattle.definition.specs.SpectralEmbedding.{inverseOf, v0Of, scaleOf};
+ghost use Rattle.numbers.specs.Answers.{multipliersOf, endingOf, raised, lowered};
 
 // The square root of x, rounded to nearest. Of -0 it is -0, and of anything else below zero and of
 // a NaN it is NaN.
@@ -130,19 +34,10 @@ pub fn root(x: f64) -> f64
     if bits > 0x8000_0000_0000_0000 {
         return 0.0 / 0.0;
     }
-    f64::from_bits(root_bits(bits))
+    f64::from_bits(pattern::root_bits(bits))
 }
 
-// The next bound: raised to 0.1 and lowered to 0.9995, and 0.1 for a NaN.
-pub fn next_bound(ritz: f64) -> f64
-    ensures { λ r. ⌜ r ≡ nextBound ieee64 ritz ⌝ }
-{
-    if 0.1 < ritz {
-        if ritz < 0.9995 { ritz } else { 0.9995 }
-    } else {
-        0.1
-    }
-}
+// ---- the start hash
 
 // a * b, modulo 2^64, by halves of 32 bits.
 pub fn wrapping_mul(a: u64, b: u64) -> u64
@@ -169,4 +64,132 @@ pub fn splitmix_unit(index: u64) -> f64
     let z3 = z2 ^ (z2 >> 31);
     let w = z3 >> 11;
     w as f64 / 9007199254740992.0 - 0.5
+}
+
+// ---- the degrees' numbers
+
+// The inverse weight of a row with that root of its degree; isolated rows get a vanishing one.
+pub fn inverse_of(root: f64) -> f64
+    ensures { λ r. ⌜ r ≡ inverseOf ieee64 root ⌝ }
+{
+    if 1e-12 < root { 1.0 / root } else { 1e-12 }
+}
+
+// The number of v0 for a row with that root of its degree.
+pub fn v0_of(norm: f64, root: f64) -> f64
+    ensures { λ r. ⌜ r ≡ v0Of ieee64 norm root ⌝ }
+{
+    if 0.0 < norm { root / norm } else { 0.0 }
+}
+
+// ---- the filter's numbers
+
+// x, raised to a least value. A NaN becomes that value.
+fn raise(x: f64, least: f64) -> f64
+    ensures { λ r. ⌜ r ≡ raised ieee64 x least ⌝ }
+{
+    if least < x { x } else { least }
+}
+
+// x, lowered to a largest value. A NaN becomes that value.
+fn lower(x: f64, most: f64) -> f64
+    ensures { λ r. ⌜ r ≡ lowered ieee64 x most ⌝ }
+{
+    if x < most { x } else { most }
+}
+
+// The next bound: raised to 0.1 and lowered to 0.9995, and 0.1 for a NaN.
+pub fn next_bound(ritz: f64) -> f64
+    ensures { λ r. ⌜ r ≡ nextBound ieee64 ritz ⌝ }
+{
+    lower(raise(ritz, 0.1), 0.9995)
+}
+
+// The alpha that a new bound sets, 1 / t1.
+pub fn first_alpha(bound: f64) -> f64
+    ensures { λ r. ⌜ r ≡ firstAlpha ieee64 bound ⌝ }
+{
+    let t1 = (2.0 - bound) / bound;
+    1.0 / t1
+}
+
+// The alpha that follows `alpha`.
+pub fn next_alpha(bound: f64, alpha: f64) -> f64
+    ensures { λ r. ⌜ r ≡ nextAlpha ieee64 bound alpha ⌝ }
+{
+    let t1 = (2.0 - bound) / bound;
+    1.0 / (2.0 * t1 - alpha)
+}
+
+// What a pass multiplies its three numbers of a row by.
+pub struct Multipliers {
+    pub of_mv: f64,
+    pub of_v: f64,
+    pub of_prev: f64,
+}
+
+// Of a round's first pass.
+pub fn first_multipliers(bound: f64, alpha: f64) -> Multipliers
+    ensures { λ r. ⌜ multipliersOf r ≡ firstMultipliers ieee64 bound alpha ⌝ }
+{
+    Multipliers {
+        of_mv: 2.0 * alpha / bound,
+        of_v: -alpha,
+        of_prev: 0.0,
+    }
+}
+
+// Of a later pass, whose alpha `following` follows `alpha`.
+pub fn later_multipliers(bound: f64, alpha: f64, following: f64) -> Multipliers
+    ensures { λ r. ⌜ multipliersOf r ≡ laterMultipliers ieee64 bound alpha following ⌝ }
+{
+    Multipliers {
+        of_mv: 2.0 * 2.0 * following / bound,
+        of_v: -2.0 * following,
+        of_prev: -following * alpha,
+    }
+}
+
+// Of the plain pass.
+pub fn plain_multipliers() -> Multipliers
+    ensures { λ r. ⌜ multipliersOf r ≡ plainMultipliers ieee64 ⌝ }
+{
+    Multipliers {
+        of_mv: 1.0,
+        of_v: 0.0,
+        of_prev: 0.0,
+    }
+}
+
+// ---- the collapse test
+
+// How an attempt at a column ends: kept with its norm, refreshed, or zeroed.
+pub enum Ending {
+    Kept(f64),
+    Refreshed,
+    Zeroed,
+}
+
+// Whether a column kept enough of its norm; one that was refreshed already isn't refreshed again.
+// The limit is 2^-26. A NaN is never greater.
+pub fn collapse_test(before: f64, norm: f64, already: bool) -> Ending
+    ensures { λ r. ⌜ endingOf r ≡ ending ieee64 before norm already ⌝ }
+{
+    if before * 1.4901161193847656e-8 < norm {
+        return Ending::Kept(norm);
+    }
+    if already {
+        Ending::Zeroed
+    } else {
+        Ending::Refreshed
+    }
+}
+
+// ---- the scale of the seed
+
+// What a column of that standard deviation is multiplied by; 1 for one that hardly varies.
+pub fn scale_of(target: f64, std: f64) -> f64
+    ensures { λ r. ⌜ r ≡ scaleOf ieee64 target std ⌝ }
+{
+    if 1e-30 < std { target / std } else { 1.0 }
 }

@@ -1,4 +1,3 @@
 -- The laws that the proofs of `rows` cite.
-pub mod Parts
-pub mod Blocks
+pub mod Starting
 pub mod Passes

@@ -12,7 +12,7 @@ use Rattle.definition.proofs.Places.{number-at}
 use Rattle.definition.proofs.Rows.{starts-up}
 use Rattle.definition.proofs.Sums.{sum-none, sum-more}
 use Rattle.rows.specs.Pass.{operatorOf, combinedAt, gathered, Entries, Pass}
-use Rattle.rows.proofs.Blocks.{block-at, place-after}
+use Rattle.definition.proofs.Blocks.{block-at, place-after}
 
 -- the entries of a row of the pass
 pub row-entries : {E : Type 0} {n k first end : ℕ} {starts columns : List ℕ} {weights inverse v prev : List E}

@@ -1,20 +1,25 @@
--- `numbers::next_bound` meets its contract: each arm returns what the tests pick. Assumes nothing.
-use lib.Ieee.{ofBits}
-use Rattle.definition.specs.ChebyshevRayleighRitz.{nextBound}
+-- `numbers::next_bound` meets its contract: the least bound is below the largest. Assumes nothing.
+use borrow.Author.Needs.{needs}
+use mathlib.Core.Path.{_∙_, ap}
+use lib.Ieee.{Float, binary64, ofBits}
+use Rattle.definition.specs.Arith.{ieee64}
+use Rattle.numbers.specs.Answers.{lowered}
+use Rattle.numbers.proofs.Bounds.{raised-lowered}
 use Rattle.numbers.proofs.next_bound.Statement.{statement}
 use Rattle.numbers.proofs.next_bound.Tie as tie
 
+raise-requires : tie.Need-raise-requires
+raise-requires c κs = search needs
+
+lower-requires : tie.Need-lower-requires
+lower-requires c κs = search needs
+
 returns : tie.Need-returns
-unfolding nextBound ofBits
-returns c = simp (c .before .if1 .taken, c .if2 .taken)
-
-returns-2 : tie.Need-returns-2
-unfolding nextBound ofBits
-returns-2 c = simp (c .before .if1 .taken, c .if2 .left)
-
-returns-3 : tie.Need-returns-3
-unfolding nextBound ofBits
-returns-3 c = simp (c .if1 .left)
+unfolding ofBits
+returns c =
+    c .lower .ensures
+    ∙ ap (λ (x : Float). lowered ieee64 x (ofBits binary64 0x3fef_fbe7_6c8b_4396)) (c .before .raise .ensures)
+    ∙ raised-lowered (c .before .before .args .ritz)
 
 pub next-bound-spec : {M : Type 1} → statement M
-next-bound-spec = tie.close (tie.spec returns returns-2 returns-3)
+next-bound-spec = tie.close (tie.spec raise-requires lower-requires returns)

@@ -4,7 +4,7 @@ use Prim.Native.Nat.{_+_, _-_}
 use native.Mathlib.Omega.{arith}
 use lib.ListN.{length, take, drop}
 use Rattle.definition.proofs.Fill.{fill-part}
-use Rattle.rows.proofs.Parts.{part-length}
+use Rattle.definition.proofs.Parts.{part-length}
 use borrow.Author.Needs.{needs}
 use Rattle.rows.proofs.degrees.degrees_chunk.Statement.{statement}
 use Rattle.rows.proofs.degrees.degrees_chunk.Tie as tie

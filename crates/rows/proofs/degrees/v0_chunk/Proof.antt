@@ -3,7 +3,7 @@ use mathlib.Core.Path.{ap}
 use Rattle.definition.specs.Arith.{ieee64}
 use Rattle.definition.specs.SpectralEmbedding.{v0Of}
 use Rattle.definition.proofs.Fill.{fill-part}
-use Rattle.rows.proofs.Parts.{part-at}
+use Rattle.definition.proofs.Parts.{part-at}
 use borrow.Author.Needs.{needs}
 use Rattle.rows.proofs.degrees.v0_chunk.Statement.{statement}
 use Rattle.rows.proofs.degrees.v0_chunk.Tie as tie

@@ -4,7 +4,7 @@ use Prim.Native.Nat.{_*_}
 use native.Mathlib.Omega.{arith}
 use lib.ListN.{length}
 use Rattle.definition.specs.Requirements.{Span}
-use Rattle.rows.proofs.Blocks.{span-places, rows-length, rows-back}
+use Rattle.definition.proofs.Blocks.{span-places, rows-length, rows-back}
 use borrow.Author.Needs.{needs}
 use Rattle.rows.proofs.pass.matvec_combine.Statement.{statement}
 use Rattle.rows.proofs.pass.matvec_combine.Tie as tie
@@ -41,7 +41,7 @@ same-length c = search needs
 returns : tie.Need-returns
 returns c =
     let s = c .before .before .before .before .before .before .before .before .before .before .before in
-    rows-back _ _ (s .args .first) (s .args .end) _ (s .pre .0 .span) (s .pre .1) _ _ (λ p. refl) (c .before .before .matvec-combine-rows .ensures)
+    rows-back _ _ (s .args .first) (s .args .end) _ (s .pre .0 .span) (s .pre .1) _ _ (λ p h. refl) (c .before .before .matvec-combine-rows .ensures)
 
 pub matvec-combine-spec : {M : Type 1} → statement M
 matvec-combine-spec =

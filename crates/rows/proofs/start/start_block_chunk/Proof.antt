@@ -4,8 +4,9 @@ use native.Mathlib.Omega.{arith}
 use lib.ListN.{length}
 use Rattle.definition.specs.Arith.{ieee64}
 use Rattle.definition.specs.Requirements.{Span}
-use Rattle.rows.proofs.Parts.{part-length}
-use Rattle.rows.proofs.Blocks.{span-places, rows-back, start-at}
+use Rattle.definition.proofs.Parts.{part-length}
+use Rattle.definition.proofs.Blocks.{span-places, rows-back}
+use Rattle.rows.proofs.Starting.{start-at}
 use borrow.Author.Needs.{needs}
 use Rattle.rows.proofs.start.start_block_chunk.Statement.{statement}
 use Rattle.rows.proofs.start.start_block_chunk.Tie as tie
@@ -42,7 +43,7 @@ same-length c = search needs
 returns : tie.Need-returns
 returns c =
     let s = c .before .before .before .before .before in
-    rows-back _ _ (s .args .first) (s .args .end) _ (s .pre .0) (s .pre .1) _ _ (start-at ieee64 _ _ _) (c .before .before .start-block-rows .ensures)
+    rows-back _ _ (s .args .first) (s .args .end) _ (s .pre .0) (s .pre .1) _ _ (λ p h. start-at ieee64 _ _ _ p) (c .before .before .start-block-rows .ensures)
 
 pub start-block-chunk-spec : {M : Type 1} → statement M
 start-block-chunk-spec =
