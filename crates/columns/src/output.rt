@@ -239,6 +239,5 @@ pub fn column_scale(n: usize, target: f64, squares: f64) -> f64
     ensures { λ r. ⌜ r ≡ scaleOf ieee64 target (spread ieee64 n squares) ⌝ }
 {
     let count = n as f64;
-    let std = numbers::root(squares / count);
-    if 1e-30 < std { target / std } else { 1.0 }
+    numbers::scale_of(target, numbers::root(squares / count))
 }

@@ -6,7 +6,7 @@ ghost use Rattle.definition.specs.Arith.{ieee64};
 ghost use Rattle.definition.specs.ChunkedColumnReduce.{sumUp};
 ghost use Rattle.definition.specs.Memory.{fillRange, vectorOf, wholesOf};
 ghost use Rattle.definition.specs.Requirements.{Span, Starts};
-ghost use Rattle.definition.specs.SpectralEmbedding.{degreeRoot, inverseOf, inverseWeight, v0Of};
+ghost use Rattle.definition.specs.SpectralEmbedding.{degreeRoot, inverseWeight, v0Of};
 
 // The values from a up to e, upward from +0.
 fn sum_values(values: &[f64], a: usize, e: usize) -> f64
@@ -20,13 +20,6 @@ fn sum_values(values: &[f64], a: usize, e: usize) -> f64
         i += 1;
     }
     sum
-}
-
-// The inverse weight of a row whose degree has this root. A NaN is not greater.
-fn inverse_of(root: f64) -> f64
-    ensures { λ r. ⌜ r ≡ inverseOf ieee64 root ⌝ }
-{
-    if 1e-12 < root { 1.0 / root } else { 1e-12 }
 }
 
 // The rows from `first` on, as many as the two parts have.
@@ -44,7 +37,7 @@ fn degrees_rows(first: usize, starts: &[u64], values: &[f64], inverse: &mut [f64
         let a = starts[row] as usize;
         let e = starts[row + 1] as usize;
         let root = numbers::root(sum_values(values, a, e));
-        inverse[i] = inverse_of(root);
+        inverse[i] = numbers::inverse_of(root);
         v0[i] = root;
         i += 1;
     }
@@ -76,13 +69,6 @@ pub fn degrees_chunk(
     );
 }
 
-// v0 of a row with this root, by the norm of all roots.
-fn v0_of(norm: f64, root: f64) -> f64
-    ensures { λ r. ⌜ r ≡ v0Of ieee64 norm root ⌝ }
-{
-    if 0.0 < norm { root / norm } else { 0.0 }
-}
-
 // Roots made v0 where they stand.
 fn v0_rows(norm: f64, v0: &mut [f64])
     ensures { λ _. ⌜ now (v0 .exit) ≡ fillRange 0 (length (now (v0 .entry)))
@@ -90,7 +76,7 @@ fn v0_rows(norm: f64, v0: &mut [f64])
 {
     let mut i = 0;
     while i < v0.len() {
-        v0[i] = v0_of(norm, v0[i]);
+        v0[i] = numbers::v0_of(norm, v0[i]);
         i += 1;
     }
 }

@@ -1,9 +1,8 @@
 -- `columns::output::column_scale` meets its contract. Assumes nothing.
 use borrow.Author.Needs.{needs}
-use mathlib.Core.Path.{sym, ap}
+use mathlib.Core.Path.{ap, _∙_}
 use Prim.Native.Nat.{_≤_, _^_}
 use native.Mathlib.Omega.{arith}
-use mathlib.Core.Bool.{Bool, cond}
 use lib.Dec.{le→leb}
 use lib.Ieee.{inFloat}
 use Rattle.definition.specs.Arith.{ieee64}
@@ -20,17 +19,12 @@ int-to-float-count c =
 root-requires : tie.Need-root-requires
 root-requires c κs = search needs
 
-returns : tie.Need-returns
-unfolding scaleOf spread
-returns c =
-    let s = c .before .root in
-    rw (← s .ensures) (sym (ap (λ (b : Bool). cond b (ieee64 .div (c .before .before .before .args .target) (s .result)) (ieee64 .one)) (c .if1 .taken)))
+scale-of-requires : tie.Need-scale-of-requires
+scale-of-requires c κs = search needs
 
-returns-2 : tie.Need-returns-2
-unfolding scaleOf spread
-returns-2 c =
-    let s = c .before .root in
-    rw (← s .ensures) (sym (ap (λ (b : Bool). cond b (ieee64 .div (c .before .before .before .args .target) (s .result)) (ieee64 .one)) (c .if1 .left)))
+returns : tie.Need-returns
+unfolding spread
+returns c = c .scale-of .ensures ∙ ap (scaleOf ieee64 (c .before .before .before .args .target)) (c .before .root .ensures)
 
 pub column-scale-spec : {M : Type 1} → statement M
-column-scale-spec = tie.close (tie.spec int-to-float-count root-requires returns returns-2)
+column-scale-spec = tie.close (tie.spec int-to-float-count root-requires scale-of-requires returns)
