@@ -16,10 +16,6 @@ use Rattle.sums.specs.Accumulators.{accumulators, raised, summed, withPa
 
 -- ---- places
 
--- the rows of a span lie in its block
-pub span-within : (first end n k : ℕ) {m : ℕ} → Span first end n → n * k ≤ m → end * k ≤ m
-span-within first end n k s p = omega (arith, mul-le-mul-right {m = end} {n = n} k (s .within))
-
 -- the accumulators hold 15 by 15
 pub square-most : (k : ℕ) → k ≤ 15 → k * k ≤ accumulators
 square-most k p = omega (arith, mul-le-mul-right {m = k} {n = 15} k p)

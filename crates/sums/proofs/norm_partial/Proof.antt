@@ -3,13 +3,13 @@ use native.Mathlib.Nat.{le-refl}
 use native.Mathlib.Omega.{arith}
 use Rattle.definition.specs.Memory.{blockOf, place}
 use Rattle.definition.proofs.Fill.{fill-start, fill-step}
-use Rattle.sums.proofs.Partials.{span-within}
+use Rattle.definition.proofs.Blocks.{span-places}
 use borrow.Author.Needs.{needs}
 use Rattle.sums.proofs.norm_partial.Statement.{statement}
 use Rattle.sums.proofs.norm_partial.Tie as tie
 
 square-sum-requires : tie.Need-square-sum-requires
-square-sum-requires c κs = let s = c .before .before in (omega arith, omega arith, span-within _ _ (s .args .n) _ (s .pre .0) (omega arith))
+square-sum-requires c κs = let s = c .before .before in (omega arith, omega arith, span-places _ (s .pre .0) (s .pre .1 .1 .1) .within)
 
 mul-partials : tie.Need-mul-partials
 mul-partials c = search needs
