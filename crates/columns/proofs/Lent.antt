@@ -19,7 +19,7 @@ use Rattle.definition.proofs.Blocks.{rows-length, part-number, block-back}
 
 -- a part of m places from a on: its length and its numbers
 pub cut-length : {E : Type 0} (a m : ℕ) (xs : List E) → a + m ≤ length xs → length (take (a + m - a) (drop a xs)) ≡ m
-cut-length a m xs h = part-length a (a + m) xs (record { ordered = omega arith; within = h }) ∙ omega arith
+cut-length a m xs h = part-length a (a + m) xs h ∙ omega arith
 
 pub cut-number : {E : Type 0} (a m : ℕ) (xs : List E) (none : E) (p : ℕ) → p < m → getD (take (a + m - a) (drop a xs)) p none ≡ getD xs (a + p) none
 cut-number a m xs none p h = part-at a (a + m) xs p none (omega arith)

@@ -37,7 +37,7 @@ module _ {E : Type 0} (n k first end : ℕ) (xs : List E) (s : Span first end n)
   pub rows-length : length (take (end * k - first * k) (drop (first * k) xs)) ≡ (end - first) * k
   rows-length =
       let e : end - first + first ≡ end = omega (arith, s .ordered) in
-      part-length (first * k) (end * k) xs (span-places k s h) ∙ omega (arith, rw e at (add-mul (end - first) first k))
+      part-length (first * k) (end * k) xs (span-places k s h .within) ∙ omega (arith, rw e at (add-mul (end - first) first k))
 
   -- and is put back where it was lent
   pub rows-back : (f g : ℕ → E) {ys : List E} → ((p : ℕ) → p < (end - first) * k → f p ≡ g (place n k first 0 + p))
@@ -45,7 +45,7 @@ module _ {E : Type 0} (n k first end : ℕ) (xs : List E) (s : Span first end n)
       → take (first * k) xs ++ (ys ++ drop (end * k - first * k) (drop (first * k) xs)) ≡ fillRange (place n k first 0) (place n k end 0) g xs
   rows-back f g e q =
       let t = span-places k s h in
-      let l : end * k - first * k ≡ (end - first) * k = sym (part-length (first * k) (end * k) xs t) ∙ rows-length in
+      let l : end * k - first * k ≡ (end - first) * k = sym (part-length (first * k) (end * k) xs (t .within)) ∙ rows-length in
       rw (place-first n k first, place-first n k end)
       (fill-part (first * k) (end * k) f g xs (t .ordered) (t .within)
       (λ p u. e p (omega arith) ∙ ap (λ (a : ℕ). g (a + p)) (place-first n k first)) q)
@@ -55,7 +55,7 @@ module _ {E : Type 0} (n k first end : ℕ) (xs : List E) (s : Span first end n)
       → blockOf none (end - first) k (take (end * k - first * k) (drop (first * k) xs)) r d ≡ blockOf none n k xs (first + r) d
   unfolding blockOf place
   part-number none r d p q =
-      let l : end * k - first * k ≡ (end - first) * k = sym (part-length (first * k) (end * k) xs (span-places k s h)) ∙ rows-length in
+      let l : end * k - first * k ≡ (end - first) * k = sym (part-length (first * k) (end * k) xs (span-places k s h .within)) ∙ rows-length in
       part-at (first * k) (end * k) xs (r * k + d) none (omega (arith, row-below r k d (end - first) p q))
       ∙ ap (λ (i : ℕ). getD xs i none) (omega (arith, add-mul first r k))
 

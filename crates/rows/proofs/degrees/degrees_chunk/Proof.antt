@@ -38,9 +38,9 @@ degrees-rows-requires c κs =
     let s = c .before .before .before .before .before .before in
     let a = s .args .first in
     let e = s .args .end in
-    let l = part-length a e (s .args .inverse .now) (s .pre .1 .0) in
+    let l = part-length a e (s .args .inverse .now) (s .pre .1 .0 .within) in
     let last : a + length (take (e - a) (drop a (s .args .inverse .now))) ≡ e = omega (arith, l, s .pre .1 .0 .ordered) in
-    (part-length a e (s .args .v0 .now) (s .pre .1 .1) ∙ sym l, rw last (s .pre .0))
+    (part-length a e (s .args .v0 .now) (s .pre .1 .1 .within) ∙ sym l, rw last (s .pre .0))
 
 same-length : tie.Need-same-length
 same-length c = search needs

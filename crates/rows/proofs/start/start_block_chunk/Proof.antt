@@ -35,7 +35,7 @@ part-start-block-rows-end c = omega (arith, places (c .before))
 start-block-rows-requires : tie.Need-start-block-rows-requires
 start-block-rows-requires c κs =
     let s = c .before .before in
-    omega (arith, places s, part-length (s .args .first * s .args .k) (s .args .end * s .args .k) (s .args .block .now) (places s))
+    omega (arith, places s, part-length (s .args .first * s .args .k) (s .args .end * s .args .k) (s .args .block .now) (places s .within))
 
 same-length : tie.Need-same-length
 same-length c = search needs
