@@ -1,0 +1,2 @@
+-- Which patterns and which floats are no NaN's.
+mod Patterns
