@@ -1,6 +1,9 @@
+//! The subtraction of an orthonormalizing pass beside the Rust loop, in place: k = 10, c = 9, 70,000 rows.
+//!
 //! `subtract_chunk` of `columns` beside document 000's loop, on one thread: k = 10, c = 9, 70,000 rows. Both work in
 //! place, so each has its own block and the same number of rounds; at the end every number is compared bit for bit (a
 //! NaN equals any NaN). The times are the best of the rounds, taken in turn.
+use bench::{same, splitmix_unit};
 use std::{hint::black_box, time::Instant};
 
 const ROWS: usize = 70_000;
@@ -23,14 +26,6 @@ unsafe extern "C" {
         block: *mut f64,
         block_len: usize,
     );
-}
-
-fn splitmix_unit(index: u64) -> f64 {
-    let mut z = index.wrapping_add(0x9E37_79B9_7F4A_7C15);
-    z = (z ^ (z >> 30)).wrapping_mul(0xBF58_476D_1CE4_E5B9);
-    z = (z ^ (z >> 27)).wrapping_mul(0x94D0_49BB_1331_11EB);
-    z ^= z >> 31;
-    (z >> 11) as f64 / (1u64 << 53) as f64 - 0.5
 }
 
 /// One chunk after the other, as a held run does.
@@ -73,7 +68,7 @@ fn seconds(work: impl FnOnce()) -> f64 {
 }
 
 fn differences(x: &[f64], y: &[f64]) -> usize {
-    x.iter().zip(y).filter(|(x, y)| x.to_bits() != y.to_bits() && !(x.is_nan() && y.is_nan())).count()
+    x.iter().zip(y).filter(|(x, y)| !same(**x, **y)).count()
 }
 
 fn main() {
@@ -91,15 +86,22 @@ fn main() {
     let mut best = [f64::INFINITY; 3];
     for _ in 0..ROUNDS {
         best[0] = best[0].min(seconds(|| ours(n, k, c, black_box(&dots), &v0, black_box(&mut a))));
-        best[1] = best[1].min(seconds(|| theirs(black_box(k), black_box(c), black_box(&dots), &v0, black_box(&mut b))));
+        best[1] = best[1]
+            .min(seconds(|| theirs(black_box(k), black_box(c), black_box(&dots), &v0, black_box(&mut b))));
         best[2] = best[2].min(seconds(|| theirs(K, black_box(c), black_box(&dots), &v0, black_box(&mut f))));
     }
     let wrong = differences(&a, &b) + differences(&a, &f);
     let changed = differences(&a, &start);
-    println!("{n} rows, k = {k}, c = {c}, {ROUNDS} rounds: {} numbers, {changed} changed, {wrong} differ", a.len());
+    println!(
+        "{n} rows, k = {k}, c = {c}, {ROUNDS} rounds: {} numbers, {changed} changed, {wrong} differ",
+        a.len()
+    );
     for (which, time) in [("k at run time", best[1]), ("k constant", best[2])] {
         let (our, their) = (best[0] * 1e3, time * 1e3);
-        println!("subtract: ours {our:.3} ms, document 000's loop with {which} {their:.3} ms, ratio {:.2}", our / their);
+        println!(
+            "subtract: ours {our:.3} ms, document 000's loop with {which} {their:.3} ms, ratio {:.2}",
+            our / their
+        );
     }
     if wrong > 0 || changed != n {
         std::process::exit(1);

@@ -1,43 +1,31 @@
+//! The edges of rows of 30 to 1,000,000 entries beside Rust's stable sort of (column, weight) pairs.
+//!
 //! Times `edges_edges_chunk` of the archive `libedges.a` beside Rust's stable sort of (column, weight) pairs.
 //!
 //! The pairs are built as document 000 builds a row: collect, sort by column, write two arrays; its sort alone is shown too.
 //! What both write is compared bit for bit, a NaN with any NaN. A time is the least of many turns, in nanoseconds an entry.
 
+use bench::Random;
 use std::process::ExitCode;
 use std::time::Instant;
-
-/// A slice as the archive takes it.
-#[repr(C)]
-struct Part<T> {
-    start: *const T,
-    len: usize,
-}
-
-fn part<T>(list: &[T]) -> Part<T> {
-    Part { start: list.as_ptr(), len: list.len() }
-}
-
-#[repr(C)]
-struct PartMut<T> {
-    start: *mut T,
-    len: usize,
-}
-
-fn part_mut<T>(list: &mut [T]) -> PartMut<T> {
-    PartMut { start: list.as_mut_ptr(), len: list.len() }
-}
 
 #[link(name = "edges", kind = "static")]
 unsafe extern "C" {
     fn edges_edges_chunk(
         first: usize,
         end: usize,
-        starts: Part<u64>,
-        columns: Part<u32>,
-        values: Part<f64>,
-        inverse: Part<f64>,
-        edge_columns: PartMut<u32>,
-        edge_weights: PartMut<f64>,
+        starts: *const u64,
+        starts_len: usize,
+        columns: *const u32,
+        columns_len: usize,
+        values: *const f64,
+        values_len: usize,
+        inverse: *const f64,
+        inverse_len: usize,
+        edge_columns: *mut u32,
+        edge_columns_len: usize,
+        edge_weights: *mut f64,
+        edge_weights_len: usize,
     );
 }
 
@@ -52,17 +40,6 @@ struct Graph {
 struct Edges {
     columns: Vec<u32>,
     weights: Vec<f64>,
-}
-
-struct Random(u64);
-
-impl Random {
-    fn next(&mut self) -> u64 {
-        self.0 ^= self.0 << 13;
-        self.0 ^= self.0 >> 7;
-        self.0 ^= self.0 << 17;
-        self.0
-    }
 }
 
 #[derive(Clone, Copy)]
@@ -128,12 +105,18 @@ fn rattle(g: &Graph, out: &mut Edges) {
         edges_edges_chunk(
             0,
             rows,
-            part(&g.starts),
-            part(&g.columns),
-            part(&g.values),
-            part(&g.inverse),
-            part_mut(&mut out.columns),
-            part_mut(&mut out.weights),
+            g.starts.as_ptr(),
+            g.starts.len(),
+            g.columns.as_ptr(),
+            g.columns.len(),
+            g.values.as_ptr(),
+            g.values.len(),
+            g.inverse.as_ptr(),
+            g.inverse.len(),
+            out.columns.as_mut_ptr(),
+            out.columns.len(),
+            out.weights.as_mut_ptr(),
+            out.weights.len(),
         );
     }
 }

@@ -1,6 +1,9 @@
+//! The root beside the hardware's on 10,000,000 patterns (or the number given), and the start hash beside Rust's.
+//!
 //! Compares `numbers_root` with the hardware's square root and `numbers_splitmix_unit` with the Rust
 //! function that it was ported from, bit for bit (a NaN equals any NaN); then prints nanoseconds a call.
 //! Leaves with 1 if anything differs. The first argument is the number of random patterns (10,000,000).
+use bench::same;
 use std::hint::black_box;
 use std::process::ExitCode;
 use std::time::Instant;
@@ -26,12 +29,6 @@ fn mixed(index: u64) -> u64 {
     z = (z ^ (z >> 30)).wrapping_mul(0xBF58_476D_1CE4_E5B9);
     z = (z ^ (z >> 27)).wrapping_mul(0x94D0_49BB_1331_11EB);
     z ^ (z >> 31)
-}
-
-/// bhtsne's `splitmix_unit` at f64.
-fn rust_splitmix_unit(index: u64) -> f64 {
-    let unit = (mixed(index) >> 11) as f64 / (1u64 << 53) as f64;
-    unit - 0.5
 }
 
 struct Random(u64);
@@ -105,10 +102,6 @@ fn pattern(random: &mut Random, kind: usize) -> u64 {
     }
 }
 
-fn same(a: f64, b: f64) -> bool {
-    a.to_bits() == b.to_bits() || a.is_nan() && b.is_nan()
-}
-
 /// The first few differences are shown.
 struct Differences(u64);
 
@@ -117,7 +110,11 @@ impl Differences {
         if !same(ours, want) {
             self.0 += 1;
             if self.0 <= 10 {
-                println!("{of} of {input:016x}: {:016x}, and {:016x} is right", ours.to_bits(), want.to_bits());
+                println!(
+                    "{of} of {input:016x}: {:016x}, and {:016x} is right",
+                    ours.to_bits(),
+                    want.to_bits()
+                );
             }
         }
     }
@@ -154,7 +151,7 @@ fn compare(count: u64) -> u64 {
     let before = differences.0;
     for i in 0..count {
         let index = if i % 2 == 0 { i } else { random.bits() };
-        differences.test("splitmix_unit", index, splitmix_unit(index), rust_splitmix_unit(index));
+        differences.test("splitmix_unit", index, splitmix_unit(index), bench::splitmix_unit(index));
     }
     println!("splitmix_unit {:>26} tried, {} differ", count, differences.0 - before);
     println!("differences: {}", differences.0);
@@ -184,7 +181,7 @@ fn time() {
         println!("root, {name}: {ours:.1} ns a call, hardware {hardware:.1} ns");
     }
     let inputs: Vec<u64> = (0..4096).collect();
-    let (ours, rust) = (least_time(&inputs, splitmix_unit), least_time(&inputs, rust_splitmix_unit));
+    let (ours, rust) = (least_time(&inputs, splitmix_unit), least_time(&inputs, bench::splitmix_unit));
     println!("splitmix_unit: {ours:.1} ns a call, Rust's {rust:.1} ns");
 }
 

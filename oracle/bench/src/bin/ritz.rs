@@ -1,6 +1,9 @@
+//! Jacobi on 63,000 matrices beside the same method in Rust.
+//!
 //! Times `ritz_jacobi_eigen` of the archive `libritz.a` beside cyclic Jacobi in Rust, on the same matrices and one thread, and compares
 //! the two bit for bit: a NaN equals any NaN.
 
+use bench::{Random, same};
 use std::hint::black_box;
 use std::process::ExitCode;
 use std::time::Instant;
@@ -73,21 +76,6 @@ fn turn_rows(m: &mut [f64], k: usize, p: usize, q: usize, cos: f64, sin: f64) {
     }
 }
 
-struct Random(u64);
-
-impl Random {
-    fn next(&mut self) -> u64 {
-        self.0 ^= self.0 << 13;
-        self.0 ^= self.0 >> 7;
-        self.0 ^= self.0 << 17;
-        self.0
-    }
-
-    fn unit(&mut self) -> f64 {
-        (self.next() >> 11) as f64 / (1u64 << 53) as f64 - 0.5
-    }
-}
-
 /// A symmetric matrix of one of nine kinds: what a Ritz step meets first, then what it hardly ever does.
 fn matrix(random: &mut Random, kind: u64, k: usize) -> [f64; LARGEST] {
     let mut m = [0.0; LARGEST];
@@ -103,7 +91,9 @@ fn matrix(random: &mut Random, kind: u64, k: usize) -> [f64; LARGEST] {
                 4 => -0.0,
                 5 => random.unit() * 1e300,
                 6 => random.unit() * 1e-310,
-                7 if random.next() % 8 == 0 => [f64::NAN, f64::INFINITY, f64::NEG_INFINITY][(random.next() % 3) as usize],
+                7 if random.next() % 8 == 0 => {
+                    [f64::NAN, f64::INFINITY, f64::NEG_INFINITY][(random.next() % 3) as usize]
+                }
                 7 => random.unit(),
                 _ => (random.next() % 3) as f64 - 1.0,
             };
@@ -115,10 +105,6 @@ fn matrix(random: &mut Random, kind: u64, k: usize) -> [f64; LARGEST] {
         m[1] = 2.0; // not symmetric any more: only the place above the diagonal decides the turn
     }
     m
-}
-
-fn same(x: f64, y: f64) -> bool {
-    x.to_bits() == y.to_bits() || x.is_nan() && y.is_nan()
 }
 
 fn compare(random: &mut Random, kind: u64, k: usize) -> bool {

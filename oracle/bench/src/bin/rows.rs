@@ -1,26 +1,12 @@
+//! The sparse pass at each width beside a Rust kernel of the same arithmetic: [rows entries runs].
+//!
 //! Times `rows_matvec_combine` of the archive `librows.a` beside a kernel of the same arithmetic in Rust, on the same arrays and one
 //! thread, and compares what they write bit for bit.
 
+use bench::Random;
 use std::hint::black_box;
 use std::process::ExitCode;
 use std::time::Instant;
-
-/// A slice as the archive takes it.
-#[repr(C)]
-struct Part<T> {
-    start: *const T,
-    len: usize,
-}
-
-fn part<T>(list: &[T]) -> Part<T> {
-    Part { start: list.as_ptr(), len: list.len() }
-}
-
-#[repr(C)]
-struct PartMut<T> {
-    start: *mut T,
-    len: usize,
-}
 
 #[link(name = "rows", kind = "static")]
 unsafe extern "C" {
@@ -32,13 +18,20 @@ unsafe extern "C" {
         mul_prev: f64,
         first: usize,
         end: usize,
-        starts: Part<u64>,
-        edge_columns: Part<u32>,
-        edge_weights: Part<f64>,
-        inverse: Part<f64>,
-        v: Part<f64>,
-        prev: Part<f64>,
-        out: PartMut<f64>,
+        starts: *const u64,
+        starts_len: usize,
+        edge_columns: *const u32,
+        edge_columns_len: usize,
+        edge_weights: *const f64,
+        edge_weights_len: usize,
+        inverse: *const f64,
+        inverse_len: usize,
+        v: *const f64,
+        v_len: usize,
+        prev: *const f64,
+        prev_len: usize,
+        out: *mut f64,
+        out_len: usize,
     );
 }
 
@@ -47,22 +40,6 @@ struct Graph {
     columns: Vec<u32>,
     weights: Vec<f64>,
     inverse: Vec<f64>,
-}
-
-struct Random(u64);
-
-impl Random {
-    fn next(&mut self) -> u64 {
-        self.0 ^= self.0 << 13;
-        self.0 ^= self.0 >> 7;
-        self.0 ^= self.0 << 17;
-        self.0
-    }
-
-    /// From -0.5 up to 0.5.
-    fn unit(&mut self) -> f64 {
-        (self.next() >> 11) as f64 / (1u64 << 53) as f64 - 0.5
-    }
 }
 
 /// A neighbour graph: most entries of a row name rows near it, one in ten any row; columns rise.
@@ -127,12 +104,30 @@ fn proved_pass(k: usize, g: &Graph, by: By, v: &[f64], prev: &[f64], out: &mut [
     let mut first = 0;
     while first < n {
         let end = (first + 4096).min(n);
-        let to = PartMut { start: out.as_mut_ptr(), len: out.len() };
         // What it requires: `holds`, blocks of n x k numbers, k from 9 to 15, and first <= end <= n.
         unsafe {
             rows_matvec_combine(
-                n, k, by[0], by[1], by[2], first, end, part(&g.starts), part(&g.columns), part(&g.weights), part(&g.inverse), part(v),
-                part(prev), to,
+                n,
+                k,
+                by[0],
+                by[1],
+                by[2],
+                first,
+                end,
+                g.starts.as_ptr(),
+                g.starts.len(),
+                g.columns.as_ptr(),
+                g.columns.len(),
+                g.weights.as_ptr(),
+                g.weights.len(),
+                g.inverse.as_ptr(),
+                g.inverse.len(),
+                v.as_ptr(),
+                v.len(),
+                prev.as_ptr(),
+                prev.len(),
+                out.as_mut_ptr(),
+                out.len(),
             );
         }
         first = end;
@@ -191,9 +186,5 @@ fn main() -> ExitCode {
         width::<14>(&g, runs, &mut random),
         width::<15>(&g, runs, &mut random),
     ];
-    if same.iter().all(|&s| s) {
-        ExitCode::SUCCESS
-    } else {
-        ExitCode::FAILURE
-    }
+    if same.iter().all(|&s| s) { ExitCode::SUCCESS } else { ExitCode::FAILURE }
 }

@@ -1,5 +1,8 @@
+//! The partials of dots and products beside the Rust loops: k = 10, 70,000 rows.
+//!
 //! The partials of `sums` beside document 000's, on one thread: dots at k = 10 and c = 9, products at k = 10, 70,000 rows.
 //! Every number is compared bit for bit (a NaN equals any NaN); the times are the best of several rounds, taken in turn.
+use bench::{same, splitmix_unit};
 use std::{hint::black_box, ops::Range, time::Instant};
 
 const ROWS: usize = 70_000;
@@ -37,14 +40,6 @@ unsafe extern "C" {
         partials: *mut f64,
         partials_len: usize,
     );
-}
-
-fn splitmix_unit(index: u64) -> f64 {
-    let mut z = index.wrapping_add(0x9E37_79B9_7F4A_7C15);
-    z = (z ^ (z >> 30)).wrapping_mul(0xBF58_476D_1CE4_E5B9);
-    z = (z ^ (z >> 27)).wrapping_mul(0x94D0_49BB_1331_11EB);
-    z ^= z >> 31;
-    (z >> 11) as f64 / (1u64 << 53) as f64 - 0.5
 }
 
 /// Document 000's `chunked_column_reduce` up to its partials, with no rayon.
@@ -99,7 +94,6 @@ fn chunks(n: usize, k: usize, mut call: impl FnMut(usize, usize, usize)) {
 
 /// The numbers that differ, those that a chunk must have left alone among them.
 fn differences(ours: &[f64], theirs: &[Vec<f64>], k: usize, untouched: f64) -> usize {
-    let same = |x: f64, y: f64| x.to_bits() == y.to_bits() || (x.is_nan() && y.is_nan());
     let of_chunk = |(chunk, partial): (usize, &Vec<f64>)| {
         (0..k * k).filter(|&p| !same(ours[chunk * k * k + p], *partial.get(p).unwrap_or(&untouched))).count()
     };
