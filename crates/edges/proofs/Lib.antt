@@ -4,4 +4,5 @@ pub mod Runs
 pub mod Heaps
 pub mod Insertion
 pub mod Quick
+pub mod Ranks
 pub mod Rows
