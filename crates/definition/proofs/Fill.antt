@@ -6,7 +6,7 @@ use Prim.Native.Nat.{ℕ, zero, suc, _+_, _-_, _≤_, _<_}
 use native.Mathlib.Nat.{add-zero, zero-add, add-suc, suc-add}
 use native.Mathlib.Numerals.{add-one}
 use native.Mathlib.Omega.{arith}
-use borrow.Author.Tests.{ltb-true, ltb-false, lt-ltb, le-ltb, le-leb, lt-leb, eq-eqb, ne-eqb}
+use borrow.Author.Tests.{ltb-true, ltb-false, lt-ltb, le-ltb, le-leb, lt-leb, eqb-true, eqb-false, eq-eqb, ne-eqb}
 use lib.Dec.{leb, ltb, eqb}
 use lib.Seq.{ext-getD}
 use Rattle.definition.specs.Memory.{mapFrom, pick, fillRange}
@@ -19,6 +19,14 @@ split {P = P} m n f g = go (ltb m n) refl
     go : (b : Bool) → ltb m n ≡ b → P
     go true e = f (ltb-true m n e)
     go false e = g (ltb-false m n e)
+
+-- by cases: m is n, or not
+pub same-or {ℓ} : {P : Type ℓ} (m n : ℕ) → (m ≡ n → P) → ((m ≡ n → ⊥) → P) → P
+same-or {P = P} m n f g = go (eqb m n) refl
+  where
+    go : (b : Bool) → eqb m n ≡ b → P
+    go true e = f (eqb-true m n e)
+    go false e = g (eqb-false m n e)
 
 module _ {A : Type 0} where
   -- ---- mapFrom

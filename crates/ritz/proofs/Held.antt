@@ -12,15 +12,7 @@ use lib.ListN.{length, getD, set, List·getD-eq-default}
 use Rattle.definition.specs.Memory.{place, rowAt, columnAt, blockOf, numberAt, pick, fillRange}
 use Rattle.definition.specs.Requirements.{Width}
 use Rattle.definition.proofs.Places.{row-below, place-below, number-at}
-use Rattle.definition.proofs.Fill.{split, mapFrom-ext, mapFrom-twice, set-mapFrom, pick-in, pick-high, fill-length, fill-in, fill-cong, fill-same, fill-over}
-
--- by cases: m is n, or not
-pub same-or {ℓ} : {P : Type ℓ} (m n : ℕ) → (m ≡ n → P) → ((m ≡ n → ⊥) → P) → P
-same-or {P = P} m n f g = go (eqb m n) refl
-  where
-    go : (b : Bool) → eqb m n ≡ b → P
-    go true e = f (eqb-true m n e)
-    go false e = g (eqb-false m n e)
+use Rattle.definition.proofs.Fill.{split, same-or, mapFrom-ext, mapFrom-twice, set-mapFrom, pick-in, pick-high, fill-length, fill-in, fill-cong, fill-same, fill-over}
 
 module _ {E : Type 0} where
   -- two matrices are the same at the first k rows and columns
