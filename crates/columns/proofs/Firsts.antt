@@ -9,7 +9,7 @@ use lib.Dec.{eqb}
 use lib.ListN.{getD}
 use native.Mathlib.Nat.{zero-add}
 use Rattle.definition.proofs.First.{first-all, all-first}
-use Rattle.columns.specs.Marks.{unsound, sound}
+use Rattle.definition.specs.Marks.{unsound, sound}
 use Rattle.definition.specs.Refusals.{firstFrom}
 
 -- a place below c is not c

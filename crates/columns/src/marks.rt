@@ -4,7 +4,7 @@ ghost use Prim.Native.Nat.{_≤_, _<_};
 ghost use lib.ListN.{length, set};
 ghost use Rattle.definition.specs.Memory.{fillRange};
 ghost use Rattle.definition.specs.Refusals.{firstFrom};
-ghost use Rattle.columns.specs.Marks.{undone, sound};
+ghost use Rattle.definition.specs.Marks.{undone, sound};
 
 // Chunk h is done.
 pub fn set_mark(marks: &mut [u8], h: usize)

@@ -13,4 +13,5 @@ pub mod ChebyshevRayleighRitz
 pub mod SpectralEmbedding
 pub mod Memory
 pub mod Requirements
+pub mod Marks
 pub mod Cases

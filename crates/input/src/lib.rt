@@ -15,7 +15,9 @@ pub use chunks::chunk_count;
 pub use chunks::end_row;
 pub use chunks::first_row;
 pub use request::row_count;
+pub use request::test_lent;
 pub use request::test_request;
+pub use request::test_seed_std;
 pub use scan::isolated_rows;
 
 // A refusal's number and its place; number 0 is no refusal.

@@ -151,7 +151,7 @@ fn lent_sizes(d: usize, n: usize, m: usize) -> [usize; 10]
     [n, n, m, m, block, block, block, partials, chunks, output]
 }
 
-fn test_lent(d: usize, n: usize, m: usize, lent: [usize; 10]) -> Verdict
+pub fn test_lent(d: usize, n: usize, m: usize, lent: [usize; 10]) -> Verdict
     requires { ⌜ Allowed d n m ⌝ }
     ensures { λ r. ⌜ verdictOf r ≡ refusals.testLent d n m (wholesOf lent) ⌝ }
 {

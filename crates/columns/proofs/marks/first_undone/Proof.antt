@@ -6,7 +6,7 @@ use native.Mathlib.Nat.{sub-zero}
 use Rattle.definition.specs.Refusals.{firstFrom}
 use Rattle.definition.proofs.First.{first-here, first-later, first-none}
 use borrow.Author.Tests.{eq-eqb, ne-eqb}
-use Rattle.columns.specs.Marks.{undone}
+use Rattle.definition.specs.Marks.{undone}
 use Rattle.columns.proofs.marks.first_undone.Statement.{statement}
 use Rattle.columns.proofs.marks.first_undone.Tie as tie
 

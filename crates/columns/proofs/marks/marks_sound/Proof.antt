@@ -7,7 +7,7 @@ use Rattle.definition.specs.Refusals.{firstFrom}
 use Rattle.definition.proofs.First.{first-here, first-later, first-none}
 use Rattle.columns.proofs.Firsts.{first-short}
 use borrow.Author.Tests.{lt-ltb, le-ltb, eq-eqb}
-use Rattle.columns.specs.Marks.{unsound, sound}
+use Rattle.definition.specs.Marks.{unsound, sound}
 use Rattle.columns.proofs.marks.marks_sound.Statement.{statement}
 use Rattle.columns.proofs.marks.marks_sound.Tie as tie
 

@@ -1,0 +1,4 @@
+-- Laws that the proofs cite.
+pub mod Order
+pub mod Room
+pub mod Stages

@@ -1,0 +1,49 @@
+-- `closing::rounds::close_products` meets its contract. Assumes nothing.
+use Prim.Native.Nat.{_+_}
+use Rattle.machine.specs.Closing.{symmetricIn, eigenMatrix, eigenVectors, orderIn, afterRound}
+use native.Mathlib.Omega.{arith}
+use Rattle.sums.proofs.Partials.{square-most}
+use Rattle.closing.proofs.Order.{order-below}
+use borrow.Author.Needs.{needs}
+use Rattle.closing.proofs.rounds.close_products.Statement.{statement}
+use Rattle.closing.proofs.rounds.close_products.Tie as tie
+
+add-k : tie.Need-add-k
+add-k c = search needs
+
+mul-stage-totals : tie.Need-mul-stage-totals
+mul-stage-totals c = omega (arith, square-most (c .before .before .before .before .args .state .asked .dims + 8) (omega arith))
+
+stage-totals-requires : tie.Need-stage-totals-requires
+stage-totals-requires c κs = search needs
+
+symmetrize-requires : tie.Need-symmetrize-requires
+symmetrize-requires c κs = search needs
+
+jacobi-eigen-requires : tie.Need-jacobi-eigen-requires
+jacobi-eigen-requires c κs = search needs
+
+ritz-order-requires : tie.Need-ritz-order-requires
+ritz-order-requires c κs = search needs
+
+after-products-requires : tie.Need-after-products-requires
+after-products-requires c κs =
+    let s = c .before .before .before .before .before .before .before .before .before .before in
+    (s .pre .0 .asked, (s .pre .0 .progress .round, order-below _ _ _ (c .ritz-order .result) _ (c .ritz-order .ensures) (omega arith)))
+
+returns : tie.Need-returns
+unfolding symmetricIn eigenMatrix eigenVectors orderIn afterRound
+returns c = rw (c .after-products .ensures, c .before .ritz-order .ensures, c .before .before .before .before .jacobi-eigen .ensures, c .before .before .before .before .before .symmetrize .ensures, c .before .before .before .before .before .before .stage-totals .ensures)
+
+pub close-products-spec : {M : Type 1} → statement M
+close-products-spec =
+    tie.close
+    (tie.spec
+    add-k
+    mul-stage-totals
+    stage-totals-requires
+    symmetrize-requires
+    jacobi-eigen-requires
+    ritz-order-requires
+    after-products-requires
+    returns)

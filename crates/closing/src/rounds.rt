@@ -1,0 +1,76 @@
+// A round's end: symmetrize, Jacobi, the Ritz order and the next bound.
+ghost use mathlib.Core.Path.{_≡_};
+ghost use Prim.Native.Nat.{_+_, _*_, _≤_, _<_};
+ghost use lib.ListN.{length, getD};
+ghost use Rattle.definition.specs.Arith.{ieee64};
+ghost use Rattle.machine.specs.State.{wide, chunkCount};
+ghost use Rattle.machine.specs.Ready.{AskedReady, StateReady};
+ghost use Rattle.machine.specs.Closing.{afterProducts, afterRound};
+ghost use Rattle.state.specs.Said.{askedIn, progressIn, stateIn};
+use crate::reduced;
+use state::Asked;
+use state::Progress;
+use state::State;
+
+// The next round with its bound and the alpha that the bound sets, or the last stages.
+fn after_products(
+    asked: Asked,
+    progress: Progress,
+    matrix: [f64; 225],
+    order: [usize; 15],
+) -> Progress
+    requires { ⌜ AskedReady (askedIn asked) ⌝ }
+    requires { ⌜ (progress .round < asked .rounds) × (getD order (asked .dims + 1) 0 < wide (askedIn asked)) ⌝ }
+    ensures { λ r. ⌜ progressIn r ≡ afterProducts ieee64 (askedIn asked) matrix order (progressIn progress) ⌝ }
+{
+    let dims = asked.dims;
+    let rounds = asked.rounds;
+    let round = progress.round;
+    let current = progress.current;
+    let bound = ritz::bound_after(
+        dims + 8,
+        dims,
+        rounds as u64,
+        round as u64,
+        progress.bound,
+        matrix,
+        order,
+    );
+    let following = round + 1;
+    let mut next = progress;
+    next.previous = current;
+    next.bound = bound;
+    if following < rounds {
+        let alpha = numbers::first_alpha(bound);
+        next.stage = 5;
+        next.round = following;
+        next.alpha = alpha;
+        return next;
+    }
+    next.stage = 15;
+    next
+}
+
+pub fn close_products(state: State, partials: &[f64]) -> State
+    requires { ⌜ StateReady ieee64 (stateIn state) ⌝ }
+    requires { ⌜ chunkCount (askedIn (state .asked)) * wide (askedIn (state .asked)) * wide (askedIn (state .asked)) ≤ length (now partials) ⌝ }
+    ensures { λ r. ⌜ stateIn r ≡ afterRound ieee64 (stateIn state) (now (partials .entry)) ⌝ }
+{
+    let asked = state.asked;
+    let p = state.progress;
+    let k = asked.dims + 8;
+    let products = reduced::stage_totals(asked, k * k, partials);
+    let means = ritz::symmetrize(k, products);
+    let eigen = ritz::jacobi_eigen(k, means);
+    let matrix = eigen.matrix;
+    let vectors = eigen.vectors;
+    let order = ritz::ritz_order(k, matrix);
+    let progress = after_products(asked, p, matrix, order);
+    let mut next = state;
+    next.progress = progress;
+    next.totals = products;
+    next.matrix = matrix;
+    next.vectors = vectors;
+    next.order = order;
+    next
+}

@@ -1,0 +1,2 @@
+-- Laws of the machine.
+pub mod Own

@@ -1,0 +1,1 @@
+// No code: the held run as a function over lists (specs/), and the theorems of the run (proofs/).

@@ -1,0 +1,3 @@
+-- What the theorems of the run say.
+pub mod Run
+pub mod Shows

@@ -1,0 +1,57 @@
+// What a held run keeps between calls, as records by value: numbers and arrays only, so that a host may store them and go on from them.
+// docs/STATE.md has each field with its meaning, its range and who sets it.
+use input::Verdict;
+
+// What was asked at the opening.
+#[repr(C)]
+pub struct Asked {
+    pub dims: usize,
+    pub rows: usize,
+    pub entries: usize,
+    pub rounds: usize,
+    pub degree: usize,
+    pub seed_std: f64,
+}
+
+// Where the run is, with the bound and alpha of its filter and the norms of the column at hand.
+#[repr(C)]
+pub struct Progress {
+    pub stage: usize,
+    pub round: usize,
+    pub pass: usize,
+    pub column: usize,
+    pub attempt: usize,
+    pub current: usize,
+    pub previous: usize,
+    pub bound: f64,
+    pub alpha: f64,
+    pub before: f64,
+    pub norm: f64,
+}
+
+// Passes closed; columns refreshed and zeroed over all rounds; rows with no entries.
+#[repr(C)]
+pub struct Counts {
+    pub passes: usize,
+    pub refreshed: usize,
+    pub zeroed: usize,
+    pub isolated: usize,
+}
+
+#[repr(C)]
+pub struct State {
+    pub asked: Asked,
+    pub progress: Progress,
+    pub counts: Counts,
+    pub totals: [f64; 225],
+    pub matrix: [f64; 225],
+    pub vectors: [f64; 225],
+    pub order: [usize; 15],
+}
+
+// What each call answers.
+#[repr(C)]
+pub struct Answer {
+    pub verdict: Verdict,
+    pub state: State,
+}
