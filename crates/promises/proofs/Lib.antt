@@ -15,3 +15,8 @@ pub mod Ritz
 pub mod Rounds
 pub mod Setup
 pub mod Last
+pub mod Stages
+pub mod Calls
+pub mod Ieee
+pub mod Untouched
+pub mod Promises

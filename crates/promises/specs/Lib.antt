@@ -1,3 +1,4 @@
 -- What the theorems of the run say.
 pub mod Run
 pub mod Shows
+pub mod Promises

@@ -1,0 +1,2 @@
+-- What the contracts of `blocks` say beyond the machine's own words.
+pub mod Chosen
