@@ -20,3 +20,4 @@ pub mod Calls
 pub mod Ieee
 pub mod Untouched
 pub mod Promises
+pub mod Fifteen

@@ -44,10 +44,10 @@ unfolding testSeedStd
 seed-passes p h = ap (λ (b : Bool). passes (given (not b) 10 0)) (both (lt (ofBits binary64 0) (p .seedStd)) (isFinite (p .seedStd)) (h .positive) (h .finite))
 
 module _ (A : Arith) (steady : Steady A) (d : ℕ) (params : Params) (g : Lists A) (m : Lent A) (marks : List ℕ) (ok : Accepted A d params g m marks) where
-  abbrev K : Machine
+  abbrev pub K : Machine
   K = machineOf A g
 
-  valid : ValidRequest A d params (g .starts) (g .columns) (g .values) (wholesOf (lengthsOf A m marks))
+  pub valid : ValidRequest A d params (g .starts) (g .columns) (g .values) (wholesOf (lengthsOf A m marks))
   valid = request-valid A (g .starts) (g .columns) (g .values) d params (wholesOf (lengthsOf A m marks)) ok
 
   pub sure : Sure A d params g
@@ -74,18 +74,18 @@ module _ (A : Arith) (steady : Steady A) (d : ℕ) (params : Params) (g : Lists 
     output = valid .enough 9 (omega arith);
   }
 
-  marks-enough : K .chunks ≤ length marks
+  pub marks-enough : K .chunks ≤ length marks
   unfolding lentSizes
   marks-enough = valid .enough 8 (omega arith)
 
   -- ---- the run as a way of stages
-  abbrev start : Base K
+  abbrev pub start : Base K
   start = openedAt A d params g m
 
-  end : Base K
+  pub end : Base K
   end = meets A d params g sure m lent-ready .at
 
-  way : Way K (Fit A d params g) (Shows A d params g) (stages A d params g sure) start end
+  pub way : Way K (Fit A d params g) (Shows A d params g) (stages A d params g sure) start end
   unfolding end
   way = meets A d params g sure m lent-ready .way
 
@@ -136,7 +136,7 @@ module _ (A : Arith) (steady : Steady A) (d : ℕ) (params : Params) (g : Lists 
     abbrev conf : Conf K
     conf = run K ks (opened K start marks)
 
-    follows : Follows A d params g conf now
+    pub follows : Follows A d params g conf now
     follows = run-follows A d params g ks (opened K start marks) (openCall A d params g m marks) opening
 
     -- 1: the state and the memory are the definition's for exactly the chunks done; each list shows what the definition says as the stage began
