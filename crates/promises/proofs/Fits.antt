@@ -82,7 +82,7 @@ module _ (A : Arith) (d : ℕ) (params : Params) (g : Lists A) where
         starts-up (g .starts) 0 (asked .rows) (asked .entries) (G .rising) (firstRow (asked .rows) h) (firstRow (asked .rows) (h + 1))
         (omega arith) (first-up (asked .rows) h (h + 1) (omega arith)) (first-most (asked .rows) (h + 1))
 
-    chunk-columns : (columns : List ℕ) (h : ℕ) → Columns columns 0 (asked .entries) (asked .rows)
+    pub chunk-columns : (columns : List ℕ) (h : ℕ) → Columns columns 0 (asked .entries) (asked .rows)
         → Columns columns (getD (g .starts) (firstRow (asked .rows) h) 0) (getD (g .starts) (firstRow (asked .rows) (h + 1)) 0) (asked .rows)
     chunk-columns columns h K = record {
       below = λ p l u. K .below p (omega arith) (omega (arith, G .rising .within (firstRow (asked .rows) (h + 1)) (omega arith) (first-most (asked .rows) (h + 1))));

@@ -21,3 +21,5 @@ pub mod Ieee
 pub mod Untouched
 pub mod Promises
 pub mod Fifteen
+pub mod Upward
+pub mod Cases

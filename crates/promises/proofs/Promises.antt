@@ -89,18 +89,18 @@ module _ (A : Arith) (steady : Steady A) (d : ℕ) (params : Params) (g : Lists 
   unfolding end
   way = meets A d params g sure m lent-ready .way
 
-  end-shows : ShowsEnd A d params g (end .state) (end .mem)
+  pub end-shows : ShowsEnd A d params g (end .state) (end .mem)
   unfolding end
   end-shows = meets A d params g sure m lent-ready .holds
 
-  opening : Follows A d params g (opened K start marks) (openCall A d params g m marks)
+  pub opening : Follows A d params g (opened K start marks) (openCall A d params g m marks)
   unfolding opened openCall openedState begunAt
   opening =
       subst (λ (b : Bool). Follows A d params g (opened K start marks) (cond b (outcome A accepted (openedState A d params g) m (cleared (K .chunks) marks)) (outcome A (testRequest A d params (g .starts) (g .columns) (g .values) (wholesOf (lengthsOf A m marks))) (emptyState A) m marks)))
       (sym (ap (λ (x : ℕ). eqb x 0) ok)) (record { state = refl; lent = refl; marks = refl; asks = refl })
 
   -- what lies behind the sizes in use, after any stages
-  way-fit : (n : ℕ) (a b : Base K) → Way K (Fit A d params g) (Shows A d params g) n a b → Fit A d params g (a .state) (a .mem)
+  pub way-fit : (n : ℕ) (a b : Base K) → Way K (Fit A d params g) (Shows A d params g) n a b → Fit A d params g (a .state) (a .mem)
   way-fit zero a b w = w .1
   way-fit (suc n) a b w = w .1
 
@@ -123,10 +123,10 @@ module _ (A : Arith) (steady : Steady A) (d : ℕ) (params : Params) (g : Lists 
   itself : Behind m
   itself = record { inverse = λ p l. refl; v0 = λ p l. refl; edgeColumns = λ p l. refl; edgeWeights = λ p l. refl; block0 = λ p l. refl; block1 = λ p l. refl; block2 = λ p l. refl; partials = λ p l. refl; output = λ p l. refl }
 
-  over-is : (s : State A) → hasEnded A s → K .over s ≡ true
+  pub over-is : (s : State A) → hasEnded A s → K .over s ≡ true
   over-is s e = eq-eqb (s .progress .stage) lastStage e
 
-  is-over : (s : State A) → K .over s ≡ true → hasEnded A s
+  pub is-over : (s : State A) → K .over s ≡ true → hasEnded A s
   is-over s e = eqb-true (s .progress .stage) lastStage e
 
   module _ (ks : List Call) where

@@ -2,3 +2,5 @@
 pub mod Run
 pub mod Shows
 pub mod Promises
+pub mod OneCall
+pub mod Cases

@@ -1,0 +1,4 @@
+-- Laws of the stages.
+pub mod Written
+pub mod Entries
+pub mod Arms
