@@ -23,3 +23,4 @@ pub mod Promises
 pub mod Fifteen
 pub mod Upward
 pub mod Cases
+pub mod Promised

@@ -4,3 +4,4 @@ pub mod Shows
 pub mod Promises
 pub mod OneCall
 pub mod Cases
+pub mod Promised
