@@ -1,0 +1,2 @@
+-- Laws of the three calls.
+pub mod Paths

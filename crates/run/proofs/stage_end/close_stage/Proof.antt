@@ -1,0 +1,30 @@
+-- `stage_end::close_stage` meets its contract. Assumes nothing.
+use mathlib.Core.Path.{ap, _∙_}
+use Prim.Native.Nat.{ℕ}
+use borrow.Author.Needs.{needs}
+use Rattle.held.specs.Marks.{cleared}
+use Rattle.run.proofs.stage_end.close_stage.Statement.{statement}
+use Rattle.run.proofs.stage_end.close_stage.Tie as tie
+
+chunk-count-requires : tie.Need-chunk-count-requires
+chunk-count-requires c κs = search needs
+
+clear-marks-requires : tie.Need-clear-marks-requires
+clear-marks-requires c κs = search needs
+
+close-stage-requires : tie.Need-close-stage-requires
+close-stage-requires c κs = search needs
+
+same-length : tie.Need-same-length
+same-length c = search needs
+
+returns : tie.Need-returns
+unfolding cleared
+returns c =
+    let k = c .before .before .before .before in
+    (c .close-stage .ensures, c .before .before .before .clear-marks .ensures ∙ ap (λ (n : ℕ). cleared n (k .before .before .before .before .before .before .args .marks .now)) (k .chunk-count .ensures))
+
+pub close-stage-spec : {M : Type 1} → statement M
+close-stage-spec =
+    tie.close
+    (tie.spec chunk-count-requires clear-marks-requires close-stage-requires same-length returns)

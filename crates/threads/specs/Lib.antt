@@ -1,0 +1,2 @@
+-- What a chunk call of a held run reads and writes.
+pub mod Owned
