@@ -7,14 +7,9 @@ ghost use lib.ListN.{length, replicate};
 ghost use Rattle.definition.specs.Arith.{ieee64};
 ghost use Rattle.definition.specs.MatvecCombine.{mixedWith, shifted};
 ghost use Rattle.definition.specs.Memory.{blockOf, fillRange, place, vectorOf};
+ghost use Rattle.numbers.specs.Answers.{multipliersOf};
 ghost use Rattle.rows.specs.Pass.{combinedAt, gathered, multipliers, operatorOf, Entries, Pass};
-
-// What a pass multiplies the operator's result, v and the block before it by.
-struct Multipliers {
-    mv: f64,
-    v: f64,
-    prev: f64,
-}
+use numbers::Multipliers;
 
 // acc[c] + weight * v[from + c], for each c below k.
 fn add_entry(acc: &mut [f64; 15], k: usize, weight: f64, v: &[f64], from: usize)
@@ -67,7 +62,7 @@ fn mix_row(
 ) -> [f64; 15]
     requires { ⌜ (k ≤ 15) × (from + k ≤ length (now v)) × (from + k ≤ length (now prev)) ⌝ }
     ensures { λ r. ⌜ r ≡ fillRange 0 k
-        (λ c. mixedWith ieee64 (multipliers ieee64 (by .mv) (by .v) (by .prev))
+        (λ c. mixedWith ieee64 (multipliersOf by)
         (shifted ieee64 inverse (vectorOf (ieee64 .none) (now (v .entry)) (from + c)) (vectorOf (ieee64 .none) (now (acc .entry)) c))
         (vectorOf (ieee64 .none) (now (v .entry)) (from + c)) (vectorOf (ieee64 .none) (now (prev .entry)) (from + c)))
         (replicate 15 (ieee64 .zero)) ⌝ }
@@ -77,7 +72,7 @@ fn mix_row(
     while c < k {
         let x = v[from + c];
         let mv = 0.5 * (x + inverse * acc[c]);
-        mixed[c] = by.mv * mv + by.v * x + by.prev * prev[from + c];
+        mixed[c] = by.of_mv * mv + by.of_v * x + by.of_prev * prev[from + c];
         c += 1;
     }
     mixed
@@ -114,7 +109,7 @@ fn combine_rows(
     requires { ⌜ length (now out) ≡ (end - first) * k ⌝ }
     ensures { λ _. ⌜ now (out .exit) ≡ fillRange 0 (length (now (out .entry)))
         (λ p. combinedAt ieee64 n k (operatorOf ieee64 (now (starts .entry)) (now (columns .entry)) (now (weights .entry)) (now (inverse .entry)))
-        (multipliers ieee64 (by .mv) (by .v) (by .prev)) (now (v .entry)) (now (prev .entry)) (place n k first 0 + p))
+        (multipliersOf by) (now (v .entry)) (now (prev .entry)) (place n k first 0 + p))
         (now (out .entry)) ⌝ }
 {
     let rows = end - first;
@@ -149,7 +144,7 @@ fn matvec_combine_rows(
     requires { ⌜ length (now out) ≡ (e - a) * k ⌝ }
     ensures { λ _. ⌜ now (out .exit) ≡ fillRange 0 (length (now (out .entry)))
         (λ p. combinedAt ieee64 n k (operatorOf ieee64 (now (starts .entry)) (now (columns .entry)) (now (weights .entry)) (now (inv .entry)))
-        (multipliers ieee64 (by .mv) (by .v) (by .prev)) (now (v .entry)) (now (prev .entry)) (place n k a 0 + p))
+        (multipliersOf by) (now (v .entry)) (now (prev .entry)) (place n k a 0 + p))
         (now (out .entry)) ⌝ }
 {
     match k {
@@ -190,9 +185,9 @@ pub fn matvec_combine(
     let a = first * k;
     let e = end * k;
     let by = Multipliers {
-        mv: mul_mv,
-        v: mul_v,
-        prev: mul_prev,
+        of_mv: mul_mv,
+        of_v: mul_v,
+        of_prev: mul_prev,
     };
     matvec_combine_rows(
         n,

@@ -8,7 +8,8 @@ use Rattle.definition.specs.Arith.{ieee64}
 use Rattle.definition.specs.Memory.{fillRange, place}
 use Rattle.definition.proofs.Fill.{fill-empty, fill-next, fill-to}
 use Rattle.definition.proofs.Places.{row-end, row-next}
-use Rattle.rows.specs.Pass.{combinedAt, operatorOf, multipliers}
+use Rattle.numbers.specs.Answers.{multipliersOf}
+use Rattle.rows.specs.Pass.{combinedAt, operatorOf}
 use Rattle.rows.proofs.Passes.{row-entries, row-combined}
 use Rattle.rows.proofs.pass.combine_rows.Statement.{statement}
 use Rattle.rows.proofs.pass.combine_rows.Tie as tie
@@ -16,7 +17,7 @@ use Rattle.rows.proofs.pass.combine_rows.Tie as tie
 abbrev Inv-loop : tie.InvT-loop
 Inv-loop n k by first end starts columns weights inverse v prev out₀ rows r₀ out r =
     (r ≤ rows) × (length out ≡ length out₀) × (out ≡ fillRange 0 (r * k)
-    (λ p. combinedAt ieee64 n k (operatorOf ieee64 starts columns weights inverse) (multipliers ieee64 (by .mv) (by .v) (by .prev)) v prev (place n k first 0 + p)) out₀)
+    (λ p. combinedAt ieee64 n k (operatorOf ieee64 starts columns weights inverse) (multipliersOf by) v prev (place n k first 0 + p)) out₀)
 
 abbrev μ-loop : tie.MeasureT-loop
 μ-loop n k by first end starts columns weights inverse v prev out₀ rows r₀ out r = rows - r
@@ -105,7 +106,7 @@ loop-again c =
       fill-to _ _ _
           (fill-next 0 (l .r * k) (l .r * k + k) _ _ _ (omega arith) (omega arith) (l .inv .2) (put .ensures)
           (row-combined ieee64 (a .n) k (a .starts .now) (a .columns .now) (a .weights .now) (a .inverse .now)
-          (multipliers ieee64 (a .by .mv) (a .by .v) (a .by .prev)) (a .v .now) (a .prev .now)
+          (multipliersOf (a .by)) (a .v .now) (a .prev .now)
           (a .first) (l .r) (s .pre .0 .width .most) (gathered .ensures) (mixed .ensures)))
           (sym (row-next (l .r) k)),
     )

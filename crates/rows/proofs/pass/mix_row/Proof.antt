@@ -7,14 +7,14 @@ use Rattle.definition.specs.Arith.{ieee64}
 use Rattle.definition.specs.MatvecCombine.{mixedWith, shifted}
 use Rattle.definition.specs.Memory.{fillRange, vectorOf}
 use Rattle.definition.proofs.Fill.{fill-start, fill-step, fill-to}
-use Rattle.rows.specs.Pass.{multipliers}
+use Rattle.numbers.specs.Answers.{multipliersOf}
 use Rattle.rows.proofs.pass.mix_row.Statement.{statement}
 use Rattle.rows.proofs.pass.mix_row.Tie as tie
 
 abbrev Inv-loop : tie.InvT-loop
 Inv-loop k by inverse acc from v prev mixed₀ c₀ mixed c =
     (c ≤ k) × (length mixed ≡ 15) × (mixed ≡ fillRange 0 c
-    (λ j. mixedWith ieee64 (multipliers ieee64 (by .mv) (by .v) (by .prev))
+    (λ j. mixedWith ieee64 (multipliersOf by)
     (shifted ieee64 inverse (vectorOf (ieee64 .none) v (from + j)) (vectorOf (ieee64 .none) acc j))
     (vectorOf (ieee64 .none) v (from + j)) (vectorOf (ieee64 .none) prev (from + j)))
     (replicate 15 (ieee64 .zero)))
