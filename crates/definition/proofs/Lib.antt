@@ -16,6 +16,7 @@ pub mod RootLaws
 pub mod RootClosest
 pub mod Splitmix
 pub mod Bounds
+pub mod Agree
 pub mod RitzOrder
 pub mod RowOrder
 pub mod Limits

@@ -32,7 +32,6 @@ countsSound a t =
 unfoldable pub orderSound : Asked → List ℕ → Bool
 orderSound a order = noneFrom (λ j. leb (wide a) (getD order j 0)) 0 orderRoom
 
-
 -- the stages that read the lent edges (the filter's passes and the plain pass), and those that read the row starts (degrees and edges too)
 abbrev pub readsEdges : ℕ → Bool
 readsEdges st = eqb st 5 || eqb st 13

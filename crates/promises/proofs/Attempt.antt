@@ -42,6 +42,7 @@ module _ (A : Arith) (d : ℕ) (params : Params) (g : Lists A) (U : Sure A d par
 
   abbrev Stands : ℕ → Block A → Lent A → Type 0
   Stands = Standing A d params g U
+
   -- the state as a write closes
   abbrev pub endState : Ending A → ℕ → ℕ → ℕ → ℕ → ℕ → A .F → A .F → ℕ → ℕ → ℕ → Idle A d params g U → State A
   endState e r c t cur prev b al p f z w = record {

@@ -48,6 +48,7 @@ module _ (A : Arith) (d : ℕ) (params : Params) (g : Lists A) (U : Sure A d par
 
   abbrev Stands : ℕ → Block A → Lent A → Type 0
   Stands = Standing A d params g U
+
   -- ---- stages that write the partials
   pub standing-partials : (own : ℕ → ℕ → Bool) (val : ℕ → Lent A → ℕ → A .F) (cur : ℕ) (v : Block A) (m : Lent A) → Stands cur v m
       → Stands cur v (whole (fillOp (partialsL A) own (A .none) val) C m)

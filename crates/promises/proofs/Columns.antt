@@ -75,6 +75,7 @@ module _ (A : Arith) (d : ℕ) (params : Params) (g : Lists A) (U : Sure A d par
 
   abbrev Stands : ℕ → Block A → Lent A → Type 0
   Stands = Standing A d params g U
+
   abbrev stepped : ℕ → ℕ → Basis A → Basis A
   stepped r c s = columnStep A n k v₀ r c s
 

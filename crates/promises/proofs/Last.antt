@@ -56,6 +56,7 @@ module _ (A : Arith) (d : ℕ) (params : Params) (g : Lists A) (U : Sure A d par
 
   abbrev Stands : ℕ → Block A → Lent A → Type 0
   Stands = Standing A d params g U
+
   -- output that keeps n rows of d numbers, in memory that is long enough
   record Out (v : Block A) (m : Lent A) : Type 0 where
     lent : LentReady A a m

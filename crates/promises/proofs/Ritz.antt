@@ -20,8 +20,8 @@ use Rattle.definition.proofs.Arranged.{arrange-length, arrange-below, arranged-
 use Rattle.definition.proofs.Fill.{split, fill-in, fill-length}
 use Rattle.definition.proofs.Places.{place-below, place-row, place-column, number-at}
 use Rattle.definition.proofs.Sums.{partial-cong, chunked-cong}
-use Rattle.ritz.proofs.Held.{Agree}
-use Rattle.ritz.proofs.Agree.{Alike, symmetrized-agree, jacobi-agree}
+use Rattle.definition.proofs.Agree.{Agree}
+use Rattle.definition.proofs.Agree.{Alike, symmetrized-agree, jacobi-agree}
 use Rattle.held.specs.Calls.{whole}
 use Rattle.held.proofs.Lens.{fillOp}
 use Rattle.machine.specs.State.{Asked, askedOf, matrixRoom, orderRoom, Lists, Progress, Lent}
@@ -57,6 +57,7 @@ module _ (A : Arith) (d : ℕ) (params : Params) (g : Lists A) (U : Sure A d par
 
   abbrev Stands : ℕ → Block A → Lent A → Type 0
   Stands = Standing A d params g U
+
   square-room : k * k ≤ matrixRoom
   square-room = let l : k ≤ 15 = omega (arith, U .dims-most) in omega (arith, mul-le-mul l l)
 

@@ -14,7 +14,7 @@ use Rattle.definition.specs.ChunkedColumnReduce.{Vector, Block}
 use Rattle.definition.specs.MatvecCombine.{Operator, matvecCombine}
 use Rattle.definition.specs.Numbers.{Params, width, chunks}
 use Rattle.definition.specs.OrthonormalizeBlock.{Basis, columnsFrom, orthonormalizeBlock}
-use Rattle.ritz.proofs.Held.{Agree}
+use Rattle.definition.proofs.Agree.{Agree}
 use Rattle.held.specs.Calls.{Base, whole}
 use Rattle.held.proofs.Lens.{fillOp}
 use Rattle.machine.specs.State.{Asked, askedOf, Lists, State, Lent}
@@ -51,6 +51,7 @@ module _ (A : Arith) (d : ℕ) (params : Params) (g : Lists A) (U : Sure A d par
 
   abbrev Stands : ℕ → Block A → Lent A → Type 0
   Stands = Standing A d params g U
+
   abbrev op : Operator A
   op = operatorOf A d params g
 

@@ -66,6 +66,7 @@ module _ (A : Arith) (d : ℕ) (params : Params) (g : Lists A) (U : Sure A d par
 
   abbrev Stands : ℕ → Block A → Lent A → Type 0
   Stands = Standing A d params g U
+
   -- ---- degrees
   module _ (m : Lent A) (L : LentReady A a m) where
     abbrev m₁ : Lent A

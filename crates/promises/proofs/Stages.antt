@@ -58,6 +58,7 @@ module _ (A : Arith) (d : ℕ) (params : Params) (g : Lists A) (U : Sure A d par
 
   abbrev Stands : ℕ → Block A → Lent A → Type 0
   Stands = Standing A d params g U
+
   -- ---- counting: a column takes seven stages, and seven more for a refresh
   step-takes : (r c rest : ℕ) (s : Basis A) (e : Ending A)
       → columnStages A d params g U e rest + 7 * s .refreshed ≡ 7 + rest + 7 * triedAgain A n k v₀ r e c (ended A n k v₀ r e c s) .refreshed

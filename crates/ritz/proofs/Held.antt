@@ -11,14 +11,11 @@ use lib.Dec.{eqb, ltb}
 use lib.ListN.{length, getD, set, List·getD-eq-default}
 use Rattle.definition.specs.Memory.{place, rowAt, columnAt, blockOf, numberAt, pick, fillRange}
 use Rattle.definition.specs.Requirements.{Width}
+use Rattle.definition.proofs.Agree.{Agree}
 use Rattle.definition.proofs.Places.{row-below, place-below, number-at}
 use Rattle.definition.proofs.Fill.{split, same-or, mapFrom-ext, mapFrom-twice, set-mapFrom, pick-in, pick-high, fill-length, fill-in, fill-cong, fill-same, fill-over}
 
 module _ {E : Type 0} where
-  -- two matrices are the same at the first k rows and columns
-  abbrev pub Agree : ℕ → (ℕ → ℕ → E) → (ℕ → ℕ → E) → Type 0
-  Agree k b d = (i c : ℕ) → i < k → c < k → b i c ≡ d i c
-
   -- b with x in row i, column c
   unfoldable pub put : (ℕ → ℕ → E) → ℕ → ℕ → E → ℕ → ℕ → E
   put b i c x r d = cond (eqb r i && eqb d c) x (b r d)

@@ -5,11 +5,14 @@ use Prim.Native.Nat.{ℕ, zero, suc, _+_, _-_, _≤_, _<_}
 use native.Mathlib.Omega.{arith}
 use native.Mathlib.Numerals.{add-one}
 use borrow.Author.Tests.{eq-eqb, ne-eqb, lt-ltb, le-ltb}
 use Rattle.definition.specs.Arith.{Arith}
 use Rattle.definition.specs.ChunkedColumnReduce.{addUp, square}
 use Rattle.definition.specs.JacobiEigen.{Matrix, Eigen, Turn, mean, symmetrized, identity, turnFirst, turnSecond, turnColumns, turnRows, tangent, turnAt, turned, pairStep, pairsFrom, rowsFrom, sweep, diagonal, offFrom, offDiagonal, noiseFloor, converged, sweepsFrom, sweepsMost, jacobiEigen}
 use Rattle.definition.proofs.Sums.{add-cong, sum-cong}
-use Rattle.ritz.proofs.Held.{Agree}
+
+-- two matrices are the same at the first k rows and columns
+abbrev pub Agree : {E : Type 0} → ℕ → (ℕ → ℕ → E) → (ℕ → ℕ → E) → Type 0
+Agree k b d = (i c : ℕ) → i < k → c < k → b i c ≡ d i c
 
 module _ (A : Arith) (k : ℕ) where
   abbrev pub Alike : Eigen A → Eigen A → Type 0
