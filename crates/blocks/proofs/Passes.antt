@@ -4,7 +4,7 @@ use mathlib.Core.Bool.{false}
 use mathlib.Core.List.{List}
 use Prim.Native.Nat.{ℕ, zero, suc, _+_, _*_, _≤_, _<_}
 use native.Mathlib.Omega.{arith}
-use borrow.Author.Tests.{eqb-false, ne-eqb}
+use borrow.Author.Tests.{eqb-false}
 use lib.Dec.{eqb}
 use lib.Ieee.{Float}
 use lib.ListN.{length}
@@ -20,19 +20,6 @@ use Rattle.rows.specs.Pass.{combinedAt, Pass}
 use Rattle.blocks.specs.Chosen.{chosen, EdgesReady}
 use Rattle.blocks.proofs.Chunk.{asked-width, span-of}
 use Rattle.blocks.proofs.Writes.{put-block}
-
--- ---- the free block, by what the two numbers are
-pub free-beside-first : (c p : ℕ) → c ≡ 0 → (p ≡ 1 → ⊥) → 1 ≡ freeBlock c p
-free-beside-first c p e n = rw (e, ne-eqb p 1 n)
-
-pub free-beside-second : (c p : ℕ) → c ≡ 1 → (p ≡ 0 → ⊥) → 0 ≡ freeBlock c p
-free-beside-second c p e n = rw (e, ne-eqb p 0 n)
-
-pub free-beside-third : (c p : ℕ) → (c ≡ 0 → ⊥) → (c ≡ 1 → ⊥) → p ≡ 0 → 1 ≡ freeBlock c p
-free-beside-third c p n k e = rw (e, ne-eqb c 0 n, ne-eqb c 1 k)
-
-pub free-first : (c p : ℕ) → (c ≡ 0 → ⊥) → (p ≡ 0 → ⊥) → 0 ≡ freeBlock c p
-free-first c p n k = rw (ne-eqb c 0 n, ne-eqb p 0 k)
 
 -- ---- it is one of the three, and neither of the two
 of-three : (P : ℕ → Type 0) → P 0 → P 1 → P 2 → (x : ℕ) → x < 3 → P x

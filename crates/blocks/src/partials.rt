@@ -101,7 +101,7 @@ pub fn products_stage<'a>(
     let n = asked.rows;
     let k = asked.dims + 8;
     let current = progress.current;
-    let free = choice::free_block(current, current);
+    let free = state::free_block(current, current);
     let v = choice::pick(current, block0, block1, block2);
     let w = choice::pick(free, block0, block1, block2);
     let first = input::first_row(n, h);

@@ -108,7 +108,7 @@ pub fn pass_stage(
         ≡ passWork ieee64 (askedIn asked) (multipliersOf by) current previous (listsIn (now (starts .entry)) columns values) h
         (lentIn (now (inverse .entry)) v0 (now («edge_columns» .entry)) (now («edge_weights» .entry)) (now (block0 .entry)) (now (block1 .entry)) (now (block2 .entry)) partials output)) ⌝ }
 {
-    let free = choice::free_block(current, previous);
+    let free = state::free_block(current, previous);
     match free {
         0 => pass_block(
             asked,

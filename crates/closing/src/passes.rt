@@ -1,37 +1,17 @@
 // The filter's passes and the plain pass: each is counted.
 ghost use mathlib.Core.Path.{_≡_};
-ghost use mathlib.Core.Bool.{cond, _||_};
+ghost use mathlib.Core.Bool.{cond};
 ghost use Prim.Native.Nat.{_+_, _≤_, _<_};
 ghost use lib.Dec.{eqb};
 ghost use Rattle.definition.specs.Arith.{ieee64};
 ghost use Rattle.definition.specs.ChebyshevRayleighRitz.{nextAlpha};
 ghost use Rattle.definition.specs.Numbers.{degreeMost};
-ghost use Rattle.machine.specs.Work.{freeBlock};
 ghost use Rattle.machine.specs.Ready.{StateReady};
 ghost use Rattle.machine.specs.Closing.{movedTo, afterFilter, passCounted, withCounts};
 ghost use Rattle.state.specs.Said.{askedIn, progressIn, countsIn, stateIn};
 use state::Asked;
 use state::Progress;
 use state::State;
-
-// Whether a pass over blocks c and p reads block b.
-fn reads_block(c: usize, p: usize, b: usize) -> bool
-    ensures { λ r. ⌜ r ≡ (eqb c b || eqb p b) ⌝ }
-{
-    c == b || p == b
-}
-
-// The first block in lent order that a pass over blocks c and p doesn't read.
-fn free_block(c: usize, p: usize) -> usize
-    ensures { λ r. ⌜ r ≡ freeBlock c p ⌝ }
-{
-    let first = reads_block(c, p, 0);
-    let second = reads_block(c, p, 1);
-    if !first {
-        return 0;
-    }
-    if second { 2 } else { 1 }
-}
 
 // The first pass of a round keeps alpha, which its bound has set.
 fn alpha_after(pass: usize, bound: f64, alpha: f64) -> f64
@@ -51,7 +31,7 @@ fn after_filter(asked: Asked, progress: Progress) -> Progress
 {
     let current = progress.current;
     let following = progress.pass + 1;
-    let written = free_block(current, progress.previous);
+    let written = state::free_block(current, progress.previous);
     let alpha = alpha_after(progress.pass, progress.bound, progress.alpha);
     let mut next = progress;
     next.current = written;

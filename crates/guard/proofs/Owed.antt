@@ -15,7 +15,7 @@ use Rattle.machine.specs.Ready.{AskedReady}
 use Rattle.machine.specs.Progress.{roundStages, inRound, runStages, closedStagesBy, closedStages, callsAccepted, callsOwed}
 use Rattle.machine.proofs.Own.{both-of}
 use Rattle.guard.specs.Counted.{Counted, Begun}
-use Rattle.guard.proofs.Asked.{asked-ready}
+use Rattle.ready.proofs.Tested.{asked-ready}
 
 -- ---- few
 pub round-few : {a : Asked} → AskedReady a → roundStages a ≤ 1_107
@@ -104,7 +104,7 @@ begun-at s h n =
     let t = sound-parts s h in
     let p = begun-progress (s .asked) (s .progress) (t .1) in
     record {
-      asked = asked-ready (s .asked) (t .0);
+      asked = asked-ready ieee64 (s .asked) (t .0);
       stage-least = split 0 (s .progress .stage) (λ l. omega arith) (λ l. absurd (n (omega arith)));
       stage-most = p .0;
       round = p .1;

@@ -1,5 +1,9 @@
 // What a held run keeps between calls, as records by value: numbers and arrays only, so that a host may store them and go on from them.
 // docs/STATE.md has each field with its meaning, its range and who sets it.
+ghost use mathlib.Core.Path.{_≡_};
+ghost use mathlib.Core.Bool.{_||_};
+ghost use lib.Dec.{eqb};
+ghost use Rattle.machine.specs.Work.{freeBlock};
 use input::Verdict;
 
 // What was asked at the opening.
@@ -54,4 +58,23 @@ pub struct State {
 pub struct Answer {
     pub verdict: Verdict,
     pub state: State,
+}
+
+// Whether a pass over blocks c and p reads block b.
+fn reads_block(c: usize, p: usize, b: usize) -> bool
+    ensures { λ r. ⌜ r ≡ (eqb c b || eqb p b) ⌝ }
+{
+    c == b || p == b
+}
+
+// The first block in lent order that a pass over blocks c and p doesn't read.
+pub fn free_block(c: usize, p: usize) -> usize
+    ensures { λ r. ⌜ r ≡ freeBlock c p ⌝ }
+{
+    let first = reads_block(c, p, 0);
+    let second = reads_block(c, p, 1);
+    if !first {
+        return 0;
+    }
+    if second { 2 } else { 1 }
 }

@@ -3,14 +3,15 @@ use mathlib.Core.Path.{sym, _∙_}
 use Rattle.machine.specs.Ranges.{stateSound}
 use Rattle.machine.specs.Ready.{AskedReady}
 use Rattle.state.specs.Said.{askedIn}
-use Rattle.guard.proofs.Asked.{asked-ready}
+use Rattle.definition.specs.Arith.{ieee64}
+use Rattle.ready.proofs.Tested.{asked-ready}
 use Rattle.guard.proofs.Chains.{failed, passed}
 use borrow.Author.Needs.{needs}
 use Rattle.guard.proofs.ranges.state_sound.Statement.{statement}
 use Rattle.guard.proofs.ranges.state_sound.Tie as tie
 
 ready : (c : tie.Then1) → AskedReady (askedIn (c .before .before .before .before .before .before .args .state .asked))
-ready c = asked-ready _ (sym (c .before .asked-sound .ensures) ∙ c .if1 .taken)
+ready c = asked-ready ieee64 _ (sym (c .before .asked-sound .ensures) ∙ c .if1 .taken)
 
 asked-sound-requires : tie.Need-asked-sound-requires
 asked-sound-requires c κs = search needs

@@ -1,11 +1,11 @@
--- `closing::passes::free_block` meets its contract. Assumes nothing.
+-- `state::free_block` meets its contract. Assumes nothing.
 use mathlib.Core.Path.{_≡_, sym, _∙_}
 use mathlib.Core.Bool.{true, false, _||_}
 use lib.Dec.{eqb}
 use borrow.Author.Tests.{not-true, not-false}
 use borrow.Author.Needs.{needs}
-use Rattle.closing.proofs.passes.free_block.Statement.{statement}
-use Rattle.closing.proofs.passes.free_block.Tie as tie
+use Rattle.state.proofs.free_block.Statement.{statement}
+use Rattle.state.proofs.free_block.Tie as tie
 
 reads-block-requires : tie.Need-reads-block-requires
 reads-block-requires c κs = search needs

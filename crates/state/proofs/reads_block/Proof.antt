@@ -1,9 +1,9 @@
--- `closing::passes::reads_block` meets its contract. Assumes nothing.
+-- `state::reads_block` meets its contract. Assumes nothing.
 use mathlib.Core.Path.{refl}
 use borrow.Author.Tests.{eq-eqb, ne-eqb}
 use Rattle.input.proofs.Flags.{or-decided, or-open}
-use Rattle.closing.proofs.passes.reads_block.Statement.{statement}
-use Rattle.closing.proofs.passes.reads_block.Tie as tie
+use Rattle.state.proofs.reads_block.Statement.{statement}
+use Rattle.state.proofs.reads_block.Tie as tie
 
 returns : tie.Need-returns
 returns c = or-decided _ (eq-eqb _ _ (c .if1 .taken)) refl
