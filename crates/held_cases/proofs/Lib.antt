@@ -1,0 +1,2 @@
+-- Which floats are no NaN's.
+mod Patterns
