@@ -3,3 +3,4 @@ pub mod Lengths
 pub mod Chunks
 pub mod Stages
 pub mod Paths
+pub mod Determined
