@@ -16,10 +16,6 @@ use state::State;
 
 const DIMS_MOST: usize = 7;
 
-const ROWS_MOST: usize = 1048576;
-
-const ENTRIES_MOST: usize = 67108864;
-
 const ROUNDS_MOST: usize = 1000;
 
 const DEGREE_MOST: usize = 1000;
@@ -37,8 +33,8 @@ pub fn asked_sound(a: Asked) -> bool
 {
     let seed_std = input::test_seed_std(a.seed_std);
     within(a.dims, DIMS_MOST)
-        && (within(a.rows, ROWS_MOST)
-            && (a.entries <= ENTRIES_MOST
+        && (within(a.rows, SpectralParams::ROWS_MOST)
+            && (a.entries <= SpectralParams::ENTRIES_MOST
                 && (within(a.rounds, ROUNDS_MOST)
                     && (within(a.degree, DEGREE_MOST) && seed_std.number == 0))))
 }

@@ -14,6 +14,7 @@ mod scan;
 pub use chunks::chunk_count;
 pub use chunks::end_row;
 pub use chunks::first_row;
+pub use request::lent_sizes;
 pub use request::row_count;
 pub use request::test_lent;
 pub use request::test_request;
@@ -53,6 +54,12 @@ impl SpectralParams {
     pub const DEFAULT_DEGREE: u64 = 20;
 
     pub const DEFAULT_SEED_STD: f64 = 1e-4;
+
+    pub const DIMS_MOST: u64 = 7;
+
+    pub const ROWS_MOST: usize = 1048576;
+
+    pub const ENTRIES_MOST: usize = 67108864;
 
     pub const ROUNDS_MOST: u64 = 1000;
 

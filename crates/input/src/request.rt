@@ -16,12 +16,6 @@ use crate::scan::first_short;
 use crate::scan::first_unfinite;
 use crate::scan::is_finite;
 
-const DIMS_MOST: u64 = 7;
-
-const ROWS_MOST: usize = 1048576;
-
-const ENTRIES_MOST: usize = 67108864;
-
 // ---- what the tests are made of
 
 fn given(fault: bool, number: u64, place: usize) -> Verdict
@@ -68,7 +62,7 @@ fn start_at(starts: &[u64], i: usize) -> u64
 fn test_dims(d: u64) -> Verdict
     ensures { λ r. ⌜ verdictOf r ≡ refusals.testDims d ⌝ }
 {
-    given(!within(d, DIMS_MOST), 1, 0)
+    given(!within(d, SpectralParams::DIMS_MOST), 1, 0)
 }
 
 fn test_rows(starts: &[u64]) -> Verdict
@@ -81,7 +75,11 @@ fn test_limits(starts: &[u64], columns: &[u32]) -> Verdict
     ensures { λ r. ⌜ verdictOf r ≡ refusals.testLimits (now (starts .entry)) (now (columns .entry)) ⌝ }
 {
     let n = row_count(starts);
-    given(ROWS_MOST < n || ENTRIES_MOST < columns.len(), 3, 0)
+    given(
+        SpectralParams::ROWS_MOST < n || SpectralParams::ENTRIES_MOST < columns.len(),
+        3,
+        0,
+    )
 }
 
 fn test_lengths(columns: usize, values: usize) -> Verdict
@@ -139,7 +137,7 @@ pub fn test_seed_std(s: f64) -> Verdict
 }
 
 // How long each lent memory must be.
-fn lent_sizes(d: usize, n: usize, m: usize) -> [usize; 10]
+pub fn lent_sizes(d: usize, n: usize, m: usize) -> [usize; 10]
     requires { ⌜ Allowed d n m ⌝ }
     ensures { λ r. ⌜ r ≡ lentSizes d n m ⌝ }
 {

@@ -1,0 +1,18 @@
+-- How much memory a run asks for, as a host is told it before it has any. Definitions only.
+use mathlib.Core.Bool.{cond, _||_}
+use mathlib.Core.List.{List}
+use Prim.Native.Nat.{ℕ}
+use lib.Dec.{ltb}
+use lib.ListN.{replicate}
+use Rattle.definition.specs.Numbers.{rowsMost, entriesMost, lentSizes, lentCount}
+use Rattle.definition.specs.Refusals as definition
+
+-- 1, 2 or 3, as the opening would refuse a graph of n rows and m entries in d dimensions
+unfoldable pub testSizes : ℕ → ℕ → ℕ → definition.Verdict
+testSizes d n m =
+    definition.orElse (definition.testDims d)
+    (definition.orElse (definition.given (ltb n 1) 2 0) (definition.given (ltb rowsMost n || ltb entriesMost m) 3 0))
+
+-- the ten sizes, or zeros with a refusal
+unfoldable pub sizesBy : definition.Verdict → ℕ → ℕ → ℕ → List ℕ
+sizesBy v d n m = cond (definition.passes v) (lentSizes d n m) (replicate lentCount 0)

@@ -1,0 +1,488 @@
+/* threshcinch.h: the spectral seed of a neighbour graph, for C and C++ on x86-64.
+ *
+ * Link target/library/libthreshcinch.a or libthreshcinch.so, which library/build writes. Every function here is proved to meet its contract
+ * (crates/threshcinch; the definitions that it cites are document 01's, in crates/definition and crates/machine). None asks for anything
+ * first, except what C itself leaves to the caller: a list's address and length must be those of memory that is there, aligned for its
+ * elements, and a list that is written must overlap no other list of the call.
+ *
+ * WHAT IS PROMISED
+ * 1. Every call ends, on every graph, parameter, state and memory. Bad input is refused by a number and a place (below). A refused call
+ *    changes no lent number; it answers the state that it got (a refused opening the empty state, a refused setter the old parameters,
+ *    a refused one call zero counts).
+ * 2. An accepted graph yields the seed of document 01's definition, roots rounded as IEEE 754 says: the same bits on every machine. They are
+ *    bhtsne's bits (a NaN counts as any NaN) where no row names a column twice, no Ritz value is NaN and the last round's first D + 1 Ritz
+ *    values fall strictly. On a graph with an empty row, or a row of minus zeros only, zeros of either sign match.
+ * 3. A held run gives the same seed, counts and memory as the one call, whatever the order of its chunk and closing calls, refused calls
+ *    among them, and wherever it was stored and gone on with. Between opening and end it accepts exactly
+ *    (9 + rounds x (degree + 2 + 7 k) + 7 x refreshed) x (C + 1) calls, with k = D + 8 and C chunks of 4,096 rows.
+ *
+ * NUMBERS ALLOWED: D 1 to 7; rows 1 to 1,048,576; entries 0 to 67,108,864; rounds and degree 1 to 1,000; seed_std positive and finite.
+ *
+ * WHAT MAY BE CALLED FROM SEVERAL THREADS AT ONCE
+ * - threshcinch_chunk on the same state, graph and memory, as long as no two calls that run at once have the same chunk number. It reads
+ *   nothing that another chunk of its stage writes and writes only its own rows, entries, partial and mark: proved in crates/threads for
+ *   the definition of the work (theorem 7), which the code is proved to do. What is not proved is which loads the compiled code makes;
+ *   examples/threads.c has been run under valgrind's helgrind and drd.
+ * - NOT beside chunk calls of the same run: threshcinch_close, threshcinch_open, threshcinch_spectral_embedding, or anything else that
+ *   touches the lent memory. Join the chunk calls first.
+ * - Calls on different memory, at any time: nothing here has state of its own. The graph is only read and may be shared.
+ * - The functions that take no lists (parameters, sizes, progress), at any time.
+ */
+#ifndef THRESHCINCH_H
+#define THRESHCINCH_H
+
+#if !defined(__x86_64__)
+#error "threshcinch: the library is compiled for x86-64; on Arm compile with x86_64-linux-gnu-gcc"
+#endif
+
+#include <stddef.h>
+#include <stdint.h>
+#include <stdlib.h>
+
+/* what the library itself has, and not this header; library/build looks for these lines */
+#define THRESHCINCH_API extern
+
+#ifdef __cplusplus
+#define THRESHCINCH_ASSERT(what) static_assert(what, #what)
+extern "C" {
+#else
+#define THRESHCINCH_ASSERT(what) _Static_assert(what, #what)
+#endif
+
+/* ---- refusals: document 01's numbers. 0 is no refusal. The place is 0 unless said. */
+enum threshcinch_refusal {
+  THRESHCINCH_ACCEPTED = 0,
+  THRESHCINCH_DIMS = 1,          /* D not 1 to 7 */
+  THRESHCINCH_NO_ROWS = 2,       /* fewer than two row starts */
+  THRESHCINCH_LIMITS = 3,        /* more rows or columns than allowed */
+  THRESHCINCH_LENGTHS = 4,       /* columns and values differ in length */
+  THRESHCINCH_STARTS = 5,        /* first start not 0, a start below the one before, or the last not the column count; place: its index */
+  THRESHCINCH_COLUMN = 6,        /* a column not below the number of rows; place: first such entry */
+  THRESHCINCH_VALUE = 7,         /* a value NaN or infinite; place: first such entry */
+  THRESHCINCH_ROUNDS = 8,        /* rounds not 1 to 1,000 */
+  THRESHCINCH_DEGREE = 9,        /* degree not 1 to 1,000 */
+  THRESHCINCH_SEED_STD = 10,     /* seed_std not positive and finite */
+  THRESHCINCH_MEMORY = 11,       /* lent memory too short; place: the first short list, 0 to 9 */
+  THRESHCINCH_NO_CHUNK = 12,     /* chunk number not below the number of chunks; place: the number offered */
+  THRESHCINCH_CHUNK_DONE = 13,   /* that chunk is already done in this stage; place: its number */
+  THRESHCINCH_CHUNKS_LEFT = 14,  /* closing with a chunk not done; place: the lowest such */
+  THRESHCINCH_NO_RUN = 15,       /* no run is open: the empty state, or a finished one */
+  THRESHCINCH_DAMAGED = 16,      /* a state field out of its range, or a list or mark that does not fit the state; never met on what a
+                                    run from its opening has reached */
+  THRESHCINCH_TEXT = 17          /* text fault; only the text program seedrun answers it; place: the line, from 1 */
+};
+
+/* ---- records: they cross by value, and hold numbers and arrays only, so that a host may store them as they are */
+
+typedef struct {
+  uint64_t number;
+  uint64_t place;
+} threshcinch_verdict;
+
+typedef struct {
+  uint64_t rounds;
+  uint64_t degree;
+  double seed_std;
+} threshcinch_params;
+
+/* what a setter answers: the new parameters, or a refusal (8, 9, 10) with the old ones */
+typedef struct {
+  threshcinch_verdict verdict;
+  threshcinch_params params;
+} threshcinch_set;
+
+/* the least lengths of the lent lists 0 to 9, in elements; zeros with a refusal (1, 2, 3) */
+typedef struct {
+  threshcinch_verdict verdict;
+  size_t lengths[10];
+} threshcinch_sizes;
+
+/* what was asked at the opening */
+typedef struct {
+  size_t dims;
+  size_t rows;
+  size_t entries;
+  size_t rounds;
+  size_t degree;
+  double seed_std;
+} threshcinch_asked;
+
+/* where a run is; docs/STATE.md has each field with its range */
+typedef struct {
+  size_t stage;
+  size_t round;
+  size_t pass;
+  size_t column;
+  size_t attempt;
+  size_t current;
+  size_t previous;
+  double bound;
+  double alpha;
+  double before;
+  double norm;
+} threshcinch_progress;
+
+/* operator passes closed; columns refreshed and zeroed, over all rounds; rows with no entries */
+typedef struct {
+  size_t passes;
+  size_t refreshed;
+  size_t zeroed;
+  size_t isolated;
+} threshcinch_counts;
+
+typedef struct {
+  threshcinch_asked asked;
+  threshcinch_progress progress;
+  threshcinch_counts counts;
+  double totals[225];
+  double matrix[225];
+  double vectors[225];
+  size_t order[15];
+} threshcinch_state;
+
+/* what opening, a chunk and closing answer */
+typedef struct {
+  threshcinch_verdict verdict;
+  threshcinch_state state;
+} threshcinch_answer;
+
+/* what the one call answers */
+typedef struct {
+  threshcinch_verdict verdict;
+  threshcinch_counts counts;
+} threshcinch_embedded;
+
+THRESHCINCH_ASSERT(sizeof(size_t) == 8 && sizeof(double) == 8);
+THRESHCINCH_ASSERT(sizeof(threshcinch_verdict) == 16 && offsetof(threshcinch_verdict, place) == 8);
+THRESHCINCH_ASSERT(sizeof(threshcinch_params) == 24 && offsetof(threshcinch_params, degree) == 8 && offsetof(threshcinch_params, seed_std) == 16);
+THRESHCINCH_ASSERT(sizeof(threshcinch_set) == 40 && offsetof(threshcinch_set, params) == 16);
+THRESHCINCH_ASSERT(sizeof(threshcinch_sizes) == 96 && offsetof(threshcinch_sizes, lengths) == 16);
+THRESHCINCH_ASSERT(sizeof(threshcinch_asked) == 48 && offsetof(threshcinch_asked, seed_std) == 40);
+THRESHCINCH_ASSERT(sizeof(threshcinch_progress) == 88 && offsetof(threshcinch_progress, bound) == 56 && offsetof(threshcinch_progress, norm) == 80);
+THRESHCINCH_ASSERT(sizeof(threshcinch_counts) == 32 && offsetof(threshcinch_counts, isolated) == 24);
+THRESHCINCH_ASSERT(sizeof(threshcinch_state) == 5688);
+THRESHCINCH_ASSERT(offsetof(threshcinch_state, progress) == 48 && offsetof(threshcinch_state, counts) == 136 && offsetof(threshcinch_state, totals) == 168);
+THRESHCINCH_ASSERT(offsetof(threshcinch_state, matrix) == 1968 && offsetof(threshcinch_state, vectors) == 3768 && offsetof(threshcinch_state, order) == 5568);
+THRESHCINCH_ASSERT(sizeof(threshcinch_answer) == 5704 && offsetof(threshcinch_answer, state) == 16);
+THRESHCINCH_ASSERT(sizeof(threshcinch_embedded) == 48 && offsetof(threshcinch_embedded, counts) == 16);
+
+/* ---- parameters: 5 rounds of degree 20, seed_std 1e-4, until set */
+
+THRESHCINCH_API threshcinch_params threshcinch_params_new(void);
+THRESHCINCH_API threshcinch_set threshcinch_params_rounds(threshcinch_params params, uint64_t rounds);
+THRESHCINCH_API threshcinch_set threshcinch_params_degree(threshcinch_params params, uint64_t degree);
+THRESHCINCH_API threshcinch_set threshcinch_params_seed_std(threshcinch_params params, double seed_std);
+
+/* ---- sizes */
+
+/* C: rows / 4,096 rounded up */
+THRESHCINCH_API size_t threshcinch_chunk_count(size_t rows);
+
+/* how long each lent list must at least be; longer is allowed, and the rest stays untouched */
+THRESHCINCH_API threshcinch_sizes threshcinch_lent_sizes(uint64_t d, size_t rows, size_t entries);
+
+/* ---- progress, for people */
+
+/* calls accepted in the stages that are closed; 0 for a state that is damaged or empty */
+THRESHCINCH_API size_t threshcinch_calls_accepted(threshcinch_state state);
+
+/* calls that the run owes from the stage at hand on, if no further column is refreshed; 0 for a state that is damaged or empty */
+THRESHCINCH_API size_t threshcinch_calls_owed(threshcinch_state state);
+
+/* ---- the calls as the library has them: each list as address and length in elements, in document 01's order. Most callers want the
+ * short forms further below. An empty list has length 0 and any address that is not NULL. */
+
+THRESHCINCH_API threshcinch_embedded threshcinch_spectral_embedding(
+    uint64_t d, threshcinch_params params,
+    const uint64_t *starts, size_t starts_length,
+    const uint32_t *columns, size_t columns_length,
+    const double *values, size_t values_length,
+    double *inverse, size_t inverse_length,
+    double *v0, size_t v0_length,
+    uint32_t *edge_columns, size_t edge_columns_length,
+    double *edge_weights, size_t edge_weights_length,
+    double *block0, size_t block0_length,
+    double *block1, size_t block1_length,
+    double *block2, size_t block2_length,
+    double *partials, size_t partials_length,
+    uint8_t *marks, size_t marks_length,
+    double *output, size_t output_length);
+
+/* writes only the first C marks */
+THRESHCINCH_API threshcinch_answer threshcinch_open(
+    uint64_t d, threshcinch_params params,
+    const uint64_t *starts, size_t starts_length,
+    const uint32_t *columns, size_t columns_length,
+    const double *values, size_t values_length,
+    const double *inverse, size_t inverse_length,
+    const double *v0, size_t v0_length,
+    const uint32_t *edge_columns, size_t edge_columns_length,
+    const double *edge_weights, size_t edge_weights_length,
+    const double *block0, size_t block0_length,
+    const double *block1, size_t block1_length,
+    const double *block2, size_t block2_length,
+    const double *partials, size_t partials_length,
+    uint8_t *marks, size_t marks_length,
+    const double *output, size_t output_length);
+
+/* does the work of one chunk in the state's stage and marks it done; the state stays as it is */
+THRESHCINCH_API threshcinch_answer threshcinch_chunk(
+    threshcinch_state state, size_t number,
+    const uint64_t *starts, size_t starts_length,
+    const uint32_t *columns, size_t columns_length,
+    const double *values, size_t values_length,
+    double *inverse, size_t inverse_length,
+    double *v0, size_t v0_length,
+    uint32_t *edge_columns, size_t edge_columns_length,
+    double *edge_weights, size_t edge_weights_length,
+    double *block0, size_t block0_length,
+    double *block1, size_t block1_length,
+    double *block2, size_t block2_length,
+    double *partials, size_t partials_length,
+    uint8_t *marks, size_t marks_length,
+    double *output, size_t output_length);
+
+/* closes the stage once each of its chunks is done; writes only the first C marks, and answers the next state */
+THRESHCINCH_API threshcinch_answer threshcinch_close(
+    threshcinch_state state,
+    const uint64_t *starts, size_t starts_length,
+    const uint32_t *columns, size_t columns_length,
+    const double *values, size_t values_length,
+    const double *inverse, size_t inverse_length,
+    const double *v0, size_t v0_length,
+    const uint32_t *edge_columns, size_t edge_columns_length,
+    const double *edge_weights, size_t edge_weights_length,
+    const double *block0, size_t block0_length,
+    const double *block1, size_t block1_length,
+    const double *block2, size_t block2_length,
+    const double *partials, size_t partials_length,
+    uint8_t *marks, size_t marks_length,
+    const double *output, size_t output_length);
+
+/* ---- the short forms */
+
+/* row i's entries are those from starts[i] up to starts[i + 1]; symmetry is not tested */
+typedef struct {
+  const uint64_t *starts;
+  size_t starts_length;
+  const uint32_t *columns;
+  size_t columns_length;
+  const double *values;
+  size_t values_length;
+} threshcinch_graph;
+
+/* lent memory in document 01's order; after the run the output holds the seed, row after row, D numbers each */
+typedef struct {
+  double *inverse;
+  size_t inverse_length;
+  double *v0;
+  size_t v0_length;
+  uint32_t *edge_columns;
+  size_t edge_columns_length;
+  double *edge_weights;
+  size_t edge_weights_length;
+  double *block0;
+  size_t block0_length;
+  double *block1;
+  size_t block1_length;
+  double *block2;
+  size_t block2_length;
+  double *partials;
+  size_t partials_length;
+  uint8_t *marks;
+  size_t marks_length;
+  double *output;
+  size_t output_length;
+} threshcinch_memory;
+
+/* n + 1 starts, and columns and values of the same length */
+static inline threshcinch_graph threshcinch_graph_of(size_t rows, const uint64_t *starts, size_t entries, const uint32_t *columns, const double *values) {
+  threshcinch_graph graph;
+  graph.starts = starts;
+  graph.starts_length = rows + 1;
+  graph.columns = columns;
+  graph.columns_length = entries;
+  graph.values = values;
+  graph.values_length = entries;
+  return graph;
+}
+
+/* The library takes no NULL; an empty list may have one here. */
+static inline void *threshcinch_address(const void *address, size_t length) {
+  static uint64_t nothing;
+  return length == 0 || !address ? (void *)&nothing : (void *)(uintptr_t)address;
+}
+#define THRESHCINCH_LIST(type, of, list) (type *)threshcinch_address((of)->list, (of)->list##_length), (of)->list ? (of)->list##_length : 0
+
+/* The one call: the seed is in memory->output if the verdict's number is 0. */
+static inline threshcinch_embedded threshcinch_embed(uint64_t d, threshcinch_params params, const threshcinch_graph *graph, const threshcinch_memory *memory) {
+  return threshcinch_spectral_embedding(d, params, THRESHCINCH_LIST(uint64_t, graph, starts),
+                                        THRESHCINCH_LIST(uint32_t, graph, columns),
+                                        THRESHCINCH_LIST(double, graph, values),
+                                        THRESHCINCH_LIST(double, memory, inverse),
+                                        THRESHCINCH_LIST(double, memory, v0),
+                                        THRESHCINCH_LIST(uint32_t, memory, edge_columns),
+                                        THRESHCINCH_LIST(double, memory, edge_weights),
+                                        THRESHCINCH_LIST(double, memory, block0),
+                                        THRESHCINCH_LIST(double, memory, block1),
+                                        THRESHCINCH_LIST(double, memory, block2),
+                                        THRESHCINCH_LIST(double, memory, partials),
+                                        THRESHCINCH_LIST(uint8_t, memory, marks),
+                                        THRESHCINCH_LIST(double, memory, output));
+}
+
+/* A held run: open once; then for each stage every chunk once, in any order, and close; until the answer of a call is 15. */
+static inline threshcinch_answer threshcinch_run_open(uint64_t d, threshcinch_params params, const threshcinch_graph *graph, const threshcinch_memory *memory) {
+  return threshcinch_open(d, params, THRESHCINCH_LIST(uint64_t, graph, starts),
+                          THRESHCINCH_LIST(uint32_t, graph, columns),
+                          THRESHCINCH_LIST(double, graph, values),
+                          THRESHCINCH_LIST(double, memory, inverse),
+                          THRESHCINCH_LIST(double, memory, v0),
+                          THRESHCINCH_LIST(uint32_t, memory, edge_columns),
+                          THRESHCINCH_LIST(double, memory, edge_weights),
+                          THRESHCINCH_LIST(double, memory, block0),
+                          THRESHCINCH_LIST(double, memory, block1),
+                          THRESHCINCH_LIST(double, memory, block2),
+                          THRESHCINCH_LIST(double, memory, partials),
+                          THRESHCINCH_LIST(uint8_t, memory, marks),
+                          THRESHCINCH_LIST(double, memory, output));
+}
+
+static inline threshcinch_answer threshcinch_run_chunk(const threshcinch_state *state, size_t number, const threshcinch_graph *graph, const threshcinch_memory *memory) {
+  return threshcinch_chunk(*state, number, THRESHCINCH_LIST(uint64_t, graph, starts),
+                           THRESHCINCH_LIST(uint32_t, graph, columns),
+                           THRESHCINCH_LIST(double, graph, values),
+                           THRESHCINCH_LIST(double, memory, inverse),
+                           THRESHCINCH_LIST(double, memory, v0),
+                           THRESHCINCH_LIST(uint32_t, memory, edge_columns),
+                           THRESHCINCH_LIST(double, memory, edge_weights),
+                           THRESHCINCH_LIST(double, memory, block0),
+                           THRESHCINCH_LIST(double, memory, block1),
+                           THRESHCINCH_LIST(double, memory, block2),
+                           THRESHCINCH_LIST(double, memory, partials),
+                           THRESHCINCH_LIST(uint8_t, memory, marks),
+                           THRESHCINCH_LIST(double, memory, output));
+}
+
+static inline threshcinch_answer threshcinch_run_close(const threshcinch_state *state, const threshcinch_graph *graph, const threshcinch_memory *memory) {
+  return threshcinch_close(*state, THRESHCINCH_LIST(uint64_t, graph, starts),
+                           THRESHCINCH_LIST(uint32_t, graph, columns),
+                           THRESHCINCH_LIST(double, graph, values),
+                           THRESHCINCH_LIST(double, memory, inverse),
+                           THRESHCINCH_LIST(double, memory, v0),
+                           THRESHCINCH_LIST(uint32_t, memory, edge_columns),
+                           THRESHCINCH_LIST(double, memory, edge_weights),
+                           THRESHCINCH_LIST(double, memory, block0),
+                           THRESHCINCH_LIST(double, memory, block1),
+                           THRESHCINCH_LIST(double, memory, block2),
+                           THRESHCINCH_LIST(double, memory, partials),
+                           THRESHCINCH_LIST(uint8_t, memory, marks),
+                           THRESHCINCH_LIST(double, memory, output));
+}
+
+/* a run stands before one of its stages */
+static inline int threshcinch_is_open(const threshcinch_state *state) {
+  return 1 <= state->progress.stage && state->progress.stage <= 19;
+}
+
+/* Gives back what threshcinch_memory_new took. */
+static inline void threshcinch_memory_free(threshcinch_memory *memory) {
+  free(memory->inverse);
+  memory->inverse = NULL;
+  memory->inverse_length = 0;
+  free(memory->v0);
+  memory->v0 = NULL;
+  memory->v0_length = 0;
+  free(memory->edge_columns);
+  memory->edge_columns = NULL;
+  memory->edge_columns_length = 0;
+  free(memory->edge_weights);
+  memory->edge_weights = NULL;
+  memory->edge_weights_length = 0;
+  free(memory->block0);
+  memory->block0 = NULL;
+  memory->block0_length = 0;
+  free(memory->block1);
+  memory->block1 = NULL;
+  memory->block1_length = 0;
+  free(memory->block2);
+  memory->block2 = NULL;
+  memory->block2_length = 0;
+  free(memory->partials);
+  memory->partials = NULL;
+  memory->partials_length = 0;
+  free(memory->marks);
+  memory->marks = NULL;
+  memory->marks_length = 0;
+  free(memory->output);
+  memory->output = NULL;
+  memory->output_length = 0;
+}
+
+/* Takes the memory that a run needs, as zeros. Answers 1, or 0 where there is not so much, and then holds nothing. */
+static inline int threshcinch_memory_new(threshcinch_memory *memory, threshcinch_sizes sizes) {
+  int whole = 1;
+  memory->inverse_length = sizes.lengths[0];
+  memory->inverse = (double *)calloc(sizes.lengths[0] + 1, sizeof *memory->inverse);
+  whole = whole && memory->inverse;
+  memory->v0_length = sizes.lengths[1];
+  memory->v0 = (double *)calloc(sizes.lengths[1] + 1, sizeof *memory->v0);
+  whole = whole && memory->v0;
+  memory->edge_columns_length = sizes.lengths[2];
+  memory->edge_columns = (uint32_t *)calloc(sizes.lengths[2] + 1, sizeof *memory->edge_columns);
+  whole = whole && memory->edge_columns;
+  memory->edge_weights_length = sizes.lengths[3];
+  memory->edge_weights = (double *)calloc(sizes.lengths[3] + 1, sizeof *memory->edge_weights);
+  whole = whole && memory->edge_weights;
+  memory->block0_length = sizes.lengths[4];
+  memory->block0 = (double *)calloc(sizes.lengths[4] + 1, sizeof *memory->block0);
+  whole = whole && memory->block0;
+  memory->block1_length = sizes.lengths[5];
+  memory->block1 = (double *)calloc(sizes.lengths[5] + 1, sizeof *memory->block1);
+  whole = whole && memory->block1;
+  memory->block2_length = sizes.lengths[6];
+  memory->block2 = (double *)calloc(sizes.lengths[6] + 1, sizeof *memory->block2);
+  whole = whole && memory->block2;
+  memory->partials_length = sizes.lengths[7];
+  memory->partials = (double *)calloc(sizes.lengths[7] + 1, sizeof *memory->partials);
+  whole = whole && memory->partials;
+  memory->marks_length = sizes.lengths[8];
+  memory->marks = (uint8_t *)calloc(sizes.lengths[8] + 1, sizeof *memory->marks);
+  whole = whole && memory->marks;
+  memory->output_length = sizes.lengths[9];
+  memory->output = (double *)calloc(sizes.lengths[9] + 1, sizeof *memory->output);
+  whole = whole && memory->output;
+  if (!whole) threshcinch_memory_free(memory);
+  return whole;
+}
+
+/* A refusal in words, for people. */
+static inline const char *threshcinch_words(uint64_t number) {
+  switch (number) {
+    case 0: return "accepted";
+    case 1: return "dimensions are not 1 to 7";
+    case 2: return "fewer than two row starts";
+    case 3: return "more rows than 1,048,576 or more entries than 67,108,864";
+    case 4: return "columns and values differ in length";
+    case 5: return "the row starts do not begin at 0, fall, or do not end at the number of columns";
+    case 6: return "a column is not below the number of rows";
+    case 7: return "a value is NaN or infinite";
+    case 8: return "rounds are not 1 to 1,000";
+    case 9: return "degree is not 1 to 1,000";
+    case 10: return "seed_std is not positive and finite";
+    case 11: return "lent memory is too short";
+    case 12: return "there is no such chunk";
+    case 13: return "that chunk is already done in this stage";
+    case 14: return "a chunk of this stage is not done yet";
+    case 15: return "no run is open";
+    case 16: return "the state, or a list for it, is damaged";
+    case 17: return "the text is not a run file";
+    default: return "no refusal has this number";
+  }
+}
+
+#ifdef __cplusplus
+}
+#endif
+
+#endif

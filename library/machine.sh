@@ -1,0 +1,83 @@
+# library/machine.sh: how x86-64 code is compiled and run on the machine at hand; for bash, read in by other scripts (source).
+#
+# Rattle's compiler writes x86-64 objects on every machine. On x86-64 they are linked and run as they are. Elsewhere (Arm) Debian's
+# cross compiler links them, and the emulator that lies beside rt's compiler runs them, as rt runs its own programs there.
+#
+#   machine_native             succeeds on x86-64
+#   machine_packages NAME...   installs the missing ones among these Debian packages, or says which are missing if not root
+#   machine_cc                 prints the C compiler for x86-64
+#   machine_tool NAME          prints ar, nm, objcopy, ld, ... for x86-64 objects
+#   machine_run PROGRAM ARGS   runs an x86-64 program that machine_cc linked
+#   machine_rt PROGRAM ARGS    runs an x86-64 program that rt linked: elsewhere the kit has the C library for it
+#
+# What apt-get says goes to stderr, so that $(machine_cc) is the compiler's name alone.
+
+machine_fail() { printf '%s: %s\n' "${0##*/}" "$*" >&2; return 1; }
+
+machine_native() { [ "$(uname -m)" = x86_64 ]; }
+
+# Where Debian's libc6-amd64-cross puts the C library and its loader.
+machine_prefix=/usr/x86_64-linux-gnu
+
+machine_packages() {
+  local missing=() package
+  for package in "$@"; do
+    [ "$(dpkg-query -W -f '${db:Status-Status}' "$package" 2>/dev/null)" = installed ] || missing+=("$package")
+  done
+  [ ${#missing[@]} -eq 0 ] && return
+  [ "$(id -u)" -eq 0 ] || { machine_fail "missing ${missing[*]}: run as root, or install them first"; return 1; }
+  { apt-get update -qq && DEBIAN_FRONTEND=noninteractive apt-get install -y -qq --no-install-recommends "${missing[@]}"; } </dev/null >&2
+}
+
+# The C library is only recommended by the compiler's package, so it is named.
+machine_cross() { machine_packages gcc-x86-64-linux-gnu libc6-dev-amd64-cross; }
+
+machine_cc() {
+  if machine_native; then
+    command -v gcc >/dev/null || machine_packages gcc libc6-dev || return 1
+    echo gcc
+  else
+    machine_cross || return 1
+    echo x86_64-linux-gnu-gcc
+  fi
+}
+
+machine_tool() {
+  if machine_native; then
+    command -v "$1" >/dev/null || machine_packages binutils || return 1
+    echo "$1"
+  else
+    machine_cross || return 1
+    echo "x86_64-linux-gnu-$1"
+  fi
+}
+
+# Prints the emulator's path: rt's guide and its compilers have one folder above them.
+machine_emulator() {
+  local guide emulator
+  guide=$(rt doc) || { machine_fail "rt is not in PATH, and the emulator lies beside its compiler"; return 1; }
+  emulator=${guide%/docs/*}/on/$(uname -m)/toolchain/bin/qemu-x86_64
+  [ -x "$emulator" ] || { machine_fail "rt's kit has no emulator of x86-64 for this machine, $(uname -m)"; return 1; }
+  echo "$emulator"
+}
+
+machine_rt() {
+  local emulator
+  if machine_native; then
+    "$@"
+  else
+    emulator=$(machine_emulator) || return 1
+    "$emulator" "${emulator%/bin/*}/lib/ld-linux-x86-64.so.2" --library-path "${emulator%/bin/*}/lib" "$@"
+  fi
+}
+
+# The loader is named, as rt does it, so that no other x86-64 C library of the machine comes between it and its own.
+machine_run() {
+  local emulator
+  if machine_native; then
+    "$@"
+  else
+    emulator=$(machine_emulator) && machine_cross || return 1
+    "$emulator" "$machine_prefix/lib/ld-linux-x86-64.so.2" --library-path "$machine_prefix/lib${LD_LIBRARY_PATH:+:$LD_LIBRARY_PATH}" "$@"
+  fi
+}
