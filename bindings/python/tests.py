@@ -1,0 +1,456 @@
+"""Tests of threshcinch.py over the library: documents' cases, the oracle's stored seeds, refusals, and what the binding itself decides."""
+import ctypes
+import os
+import pathlib
+import pickle
+import re
+import subprocess
+import sys
+import types
+import unittest
+
+import numpy as np
+from scipy import sparse
+
+import threshcinch
+from threshcinch import Counts, Refusal, spectral_embedding
+
+HERE = pathlib.Path(__file__).resolve().parent
+ROOT = HERE.parents[1]
+VECTORS = ROOT / "oracle" / "vectors"
+NAN = 0x7FF8000000000000
+
+
+def csr(starts, columns, values):
+    """A matrix of just these arrays; SciPy's constructor keeps their order."""
+    rows = len(starts) - 1
+    arrays = (np.array(values, np.float64), np.array(columns, np.int32), np.array(starts, np.int32))
+    return sparse.csr_matrix(arrays, shape=(rows, rows))
+
+
+def bits(seed):
+    """The numbers' bits, every NaN as the oracle writes it."""
+    found = np.ascontiguousarray(seed).view(np.uint64).copy()
+    found[np.isnan(seed)] = NAN
+    return found
+
+
+def random_graph(rows, neighbours, number):
+    """A symmetric graph with positive weights."""
+    chance = np.random.default_rng(number)
+    left = np.repeat(np.arange(rows), neighbours)
+    right = chance.integers(0, rows, left.size)
+    weights = chance.random(left.size) + 0.1
+    half = sparse.coo_matrix((weights, (left, right)), shape=(rows, rows)).tocsr()
+    return (half + half.T).tocsr()
+
+
+def splitmix(index):
+    """Document 01's hash, before it becomes a float."""
+    low = 2**64 - 1
+    z = (index + 0x9E3779B97F4A7C15) & low
+    z = ((z ^ z >> 30) * 0xBF58476D1CE4E5B9) & low
+    z = ((z ^ z >> 27) * 0x94D049BB133111EB) & low
+    return z ^ z >> 31
+
+
+def ring(rows, number):
+    """The oracle's graph `big ROWS NUMBER`, where NUMBER is no multiple of 4."""
+    columns, values = [], []
+    for i in range(rows):
+        for j in ((i + turn * s) % rows for s in (1, 2, 3, 4) for turn in (1, -1)):
+            columns.append(j)
+            values.append((splitmix(number * 2**40 + min(i, j) * 2**20 + max(i, j)) >> 11) / 2**53)
+    return csr(range(0, 8 * rows + 1, 8), columns, values)
+
+
+def digest(seed):
+    """FNV-1a over the numbers' bytes, as the oracle's `big` prints it."""
+    found = 0xCBF29CE484222325
+    for byte in bits(seed).tobytes():
+        found = ((found ^ byte) * 0x100000001B3) & (2**64 - 1)
+    return f"{found:016x}"
+
+
+class Watch:
+    """A progress that keeps what it was told."""
+
+    def __init__(self):
+        self.told = []
+
+    def __call__(self, accepted, owed):
+        self.told.append((accepted, owed))
+
+
+class Stop(Exception):
+    pass
+
+
+class Case(unittest.TestCase):
+    def refused(self, number, place, graph, **words):
+        for progress in (None, lambda accepted, owed: None):
+            with self.assertRaises(Refusal) as caught:
+                spectral_embedding(graph, progress=progress, **words)
+            self.assertEqual((caught.exception.number, caught.exception.place), (number, place))
+            self.assertEqual(caught.exception.words, threshcinch.WORDS[number])
+
+    def same(self, one, other):
+        np.testing.assert_array_equal(bits(one[0]), bits(other[0]))
+        self.assertEqual(one[1], other[1])
+
+
+class Document01(Case):
+    """The paper's sample and its cases 11 and 12, and the seed of the one call beside that of a held run."""
+
+    def one(self, starts, columns, values):
+        seed, counts = spectral_embedding(csr(starts, columns, values), dims=1, rounds=1, degree=1)
+        self.assertEqual(seed.dtype, np.float64)
+        self.assertEqual(seed.shape, (len(starts) - 1, 1))
+        self.assertTrue((bits(seed) == 0).all())
+        return counts
+
+    def test_sample(self):
+        self.assertEqual(self.one([0, 1], [0], [1.0]), Counts(passes=2, refreshed=9, zeroed=9, isolated=0))
+
+    def test_case_11(self):
+        self.assertEqual(self.one([0, 0], [], []), Counts(passes=2, refreshed=8, zeroed=8, isolated=1))
+
+    def test_case_12(self):
+        self.assertEqual(self.one([0, 2, 3], [0, 1, 0], [1e308] * 3), Counts(passes=2, refreshed=9, zeroed=9, isolated=0))
+
+
+class Oracle(Case):
+    """The seeds that the Rust gave, wherever port and Rust must agree."""
+
+    def cases(self):
+        for block in (VECTORS / "runs.txt").read_text().strip().split("\n\n"):
+            head, *lines = block.split("\n")
+            said = dict(word.split("=") for word in head.split()[2:])
+            asked = dict(line.split("=") for line in lines if not line.startswith("row="))
+            rows = [line[4:].split(",") for line in lines if line.startswith("row=")]
+            yield head.split()[1], said, asked, rows
+
+    def replay(self, said, asked, rows):
+        floats = lambda text: np.array([int(word, 16) for word in text.split(",") if word], np.uint64).view(np.float64)
+        wholes = lambda text: [int(word) for word in text.split(",") if word]
+        graph = csr(wholes(asked["starts"]), wholes(asked["columns"]), floats(asked["values"]))
+        words = {name: int(asked[name]) for name in ("rounds", "degree")}
+        seed, counts = spectral_embedding(graph, int(asked["d"]), seed_std=floats(asked["seed_std"])[0], **words)
+        expected = np.array([[int(word, 16) for word in row] for row in rows], np.uint64)
+        found = bits(seed)
+        if said["empty"] == "1":  # zeros of either sign match
+            found[found == 2**63] = 0
+            expected[expected == 2**63] = 0
+        np.testing.assert_array_equal(found, expected)
+        self.assertEqual(counts, Counts(*(int(said[name]) for name in Counts._fields)))
+
+    def test_runs(self):
+        agreed = 0
+        for label, said, asked, rows in self.cases():
+            # twice32 names columns twice, in rows short enough that the Rust's sort kept the input order
+            if label == "twice32" or (said["twice"], said["nan"], said["falls"]) == ("0", "0", "1"):
+                with self.subTest(case=label):
+                    self.replay(said, asked, rows)
+                agreed += 1
+        self.assertEqual(agreed, 225)
+
+    def test_three_chunks(self):
+        stored = (VECTORS / "big.txt").read_text()
+        expected = re.search(r"^big 9000 2 2 2 3\n.*\ndigest=(\w+)$", stored, re.M).group(1)
+        watch = Watch()
+        graph = ring(9000, 2)
+        one = spectral_embedding(graph, dims=2, rounds=2, degree=3)
+        self.assertEqual(digest(one[0]), expected)
+        self.same(one, spectral_embedding(graph, dims=2, rounds=2, degree=3, progress=watch))
+        calls = (9 + 2 * (3 + 2 + 7 * 10)) * 4
+        self.assertEqual(watch.told, [(accepted, calls - accepted) for accepted in range(calls + 1)])
+
+
+class Refusals(Case):
+    def setUp(self):
+        self.graph = csr([0, 1, 2, 3], [1, 2, 0], [1.0, 2.0, 3.0])
+
+    def test_1_dims(self):
+        for dims in (0, 8, -1, 2**64, 2**64 + 1, -(2**64) + 1):
+            self.refused(1, 0, self.graph, dims=dims)
+
+    def test_2_no_rows(self):
+        self.refused(2, 0, sparse.csr_matrix((0, 0)))
+
+    def test_3_rows(self):
+        rows = 1048577
+        self.refused(3, 0, sparse.csr_matrix((rows, rows)))
+
+    def test_3_entries(self):
+        # views of one number: the limit is told before anything of that length is made
+        entries = 67108865
+        self.graph.indptr = np.array([0, 0, 0, entries])
+        self.graph.indices = np.broadcast_to(np.int32(0), entries)
+        self.graph.data = np.broadcast_to(1.0, entries)
+        self.refused(3, 0, self.graph)
+
+    def test_4_lengths(self):
+        self.graph.data = self.graph.data[:2]
+        self.refused(4, 0, self.graph)
+
+    def test_5_starts(self):
+        for starts, place in (([1, 1, 2, 3], 0), ([0, 2, 1, 3], 2), ([0, 1, 2, 4], 3), ([-1, 1, 2, 3], 0), ([0, 1, 2, -3], 3)):
+            for kind in (np.int32, np.int64):
+                self.graph.indptr = np.array(starts, kind)
+                self.refused(5, place, self.graph)
+        self.graph.indptr = np.array([2**32, 1, 2, 3])
+        self.refused(5, 0, self.graph)
+
+    def test_6_columns(self):
+        for kind, wrong in ((np.int32, 3), (np.int32, -1), (np.int64, 3), (np.int64, -1), (np.int64, 2**32), (np.int64, -(2**32) + 1)):
+            self.graph.indices = np.array([0, 1, wrong], kind)
+            self.refused(6, 2, self.graph)
+
+    def test_7_values(self):
+        for wrong in (np.nan, np.inf, -np.inf):
+            self.graph.data[1] = wrong
+            self.refused(7, 1, self.graph)
+
+    def test_8_rounds(self):
+        for rounds in (0, 1001, -1, 2**64 + 5):
+            self.refused(8, 0, self.graph, rounds=rounds)
+
+    def test_9_degree(self):
+        for degree in (0, 1001, -1, 2**64 + 5):
+            self.refused(9, 0, self.graph, degree=degree)
+
+    def test_10_seed_std(self):
+        for seed_std in (0.0, -1e-4, np.nan, np.inf):
+            self.refused(10, 0, self.graph, seed_std=seed_std)
+
+    def test_order(self):
+        """With everything wrong the lowest number comes first, as document 01 tests them."""
+        self.graph.data[0] = np.nan
+        self.refused(1, 0, self.graph, dims=0, rounds=0, degree=0, seed_std=0.0)
+        self.refused(7, 0, self.graph, rounds=0, degree=0, seed_std=0.0)
+        self.graph.data[0] = 1.0
+        self.refused(8, 0, self.graph, rounds=0, degree=0, seed_std=0.0)
+        self.refused(9, 0, self.graph, degree=0, seed_std=0.0)
+
+    def test_limits_are_taken(self):
+        for words in ({"dims": 1}, {"dims": 7}, {"rounds": 1}, {"rounds": 1000}, {"degree": 1}, {"degree": 1000}, {"seed_std": 5e-324}):
+            spectral_embedding(self.graph, **words)
+
+    def test_exception(self):
+        refusal = Refusal(6, 12)
+        self.assertEqual(str(refusal), "refusal 6 at 12: a column is not below the number of rows")
+        again = pickle.loads(pickle.dumps(refusal))
+        self.assertEqual((again.number, again.place, again.words), (refusal.number, refusal.place, refusal.words))
+        self.assertIsInstance(refusal, ValueError)
+
+
+class Graphs(Case):
+    def test_defaults(self):
+        graph = random_graph(60, 4, 1)
+        self.same(spectral_embedding(graph), spectral_embedding(graph, 2, 5, 20, 1e-4))
+        seed, counts = spectral_embedding(graph)
+        self.assertEqual((seed.shape, counts.passes), ((60, 2), 5 * 21))
+
+    def test_random_graphs_both_ways(self):
+        for number in range(12):
+            graph = random_graph(5 + 37 * number, 1 + number % 5, number)
+            words = {"dims": 1 + number % 7, "rounds": 1 + number % 3, "degree": 1 + 3 * number % 8, "seed_std": 0.5 + number}
+            with self.subTest(number=number):
+                watch = Watch()
+                one = spectral_embedding(graph, **words)
+                self.same(one, spectral_embedding(graph, progress=watch, **words))
+                accepted = 9 + words["rounds"] * (words["degree"] + 2 + 7 * (words["dims"] + 8)) + 7 * one[1].refreshed
+                self.assertEqual([told[0] for told in watch.told], list(range(2 * accepted + 1)))
+                self.assertEqual(watch.told[-1], (2 * accepted, 0))
+                self.assertEqual(watch.told[0][1], 2 * (accepted - 7 * one[1].refreshed))
+
+    def test_eigenvectors(self):
+        """After many rounds the seed is what a dense solver finds: an independent judge, within rounding."""
+        graph = random_graph(40, 3, 7)
+        dense = graph.toarray()
+        inverse = 1 / np.sqrt(dense.sum(axis=1))
+        found = np.linalg.eigh(0.5 * (np.eye(40) + inverse[:, None] * dense * inverse))[1][:, ::-1][:, 1:4] * inverse[:, None]
+        found -= found.mean(axis=0)
+        found /= found.std(axis=0)
+        seed, _ = spectral_embedding(graph, dims=3, rounds=40, seed_std=1.0)
+        signs = np.sign((found * seed).sum(axis=0))
+        np.testing.assert_allclose(seed, found * signs, atol=1e-8)
+
+    def test_graph_is_only_read(self):
+        graph = random_graph(50, 3, 2)
+        graph.indices[graph.indptr[3] : graph.indptr[4]] = graph.indices[graph.indptr[3] : graph.indptr[4]][::-1].copy()
+        for array in (graph.indptr, graph.indices, graph.data):
+            array.setflags(write=False)
+        before = (graph.indptr.copy(), graph.indices.copy(), graph.data.copy(), set(vars(graph)))
+        spectral_embedding(graph)
+        spectral_embedding(graph, progress=Watch())
+        for array, old in zip((graph.indptr, graph.indices, graph.data), before):
+            np.testing.assert_array_equal(array, old)
+        self.assertEqual(set(vars(graph)), before[3])
+
+    def star(self, columns, values):
+        """Row 0 has these entries; rows 1 to 5 have row 0 and the row after them."""
+        return csr([0] + [len(columns) + 2 * i for i in range(6)], columns + [0, 2, 0, 3, 0, 4, 0, 5, 0, 1], values + [1.0, 2.0] * 5)
+
+    def differ(self, one, other):
+        self.assertTrue((one.toarray() == other.toarray()).all())
+        self.assertTrue((bits(spectral_embedding(one)[0]) != bits(spectral_embedding(other)[0])).any())
+
+    def test_order_of_entries_matters(self):
+        """A row's degree is summed as its entries stand: 1 and then four times 2^-53 is 1, the other way round it is more."""
+        small = [2.0**-53] * 4
+        self.differ(self.star([1, 2, 3, 4, 5], [1.0] + small), self.star([2, 3, 4, 5, 1], small + [1.0]))
+
+    def test_columns_twice_are_not_summed(self):
+        """The same within one column: 1 and then four times 2^-53 is not 1 and then their sum."""
+        several = self.star([1, 2, 2, 2, 2], [1.0] + [2.0**-53] * 4)
+        once = several.copy()
+        once.sum_duplicates()
+        self.assertEqual((several.nnz, once.nnz), (15, 12))
+        self.differ(several, once)
+        self.assertEqual(several.nnz, 15)
+
+    def test_kinds_of_index_arrays(self):
+        graph = random_graph(70, 3, 3)
+        expected = spectral_embedding(graph)
+        for kind in (np.int32, np.int64, np.uint32, np.uint64, ">i4", ">i8"):
+            other = graph.copy()
+            other.indices = graph.indices.astype(kind)
+            other.indptr = graph.indptr.astype(kind)
+            with self.subTest(kind=str(kind)):
+                self.same(spectral_embedding(other), expected)
+
+    def test_kinds_of_values(self):
+        graph = random_graph(70, 3, 3)
+        graph.data = np.round(graph.data * 100)
+        expected = spectral_embedding(graph)
+        for kind in (np.int64, np.uint8, np.float32, ">f8"):
+            with self.subTest(kind=str(kind)):
+                other = graph.copy()
+                other.data = graph.data.astype(kind)
+                self.same(spectral_embedding(other), expected)
+
+    def test_arrays_in_pieces(self):
+        graph = random_graph(70, 3, 3)
+        expected = spectral_embedding(graph)
+        strided, crooked, longer = graph.copy(), graph.copy(), graph.copy()
+        strided.data = np.repeat(graph.data, 2)[::2]
+        strided.indices = np.repeat(graph.indices, 2)[::2]
+        crooked.data = np.frombuffer(b"x" + graph.data.tobytes(), np.float64, offset=1)
+        crooked.indices = np.frombuffer(b"x" + graph.indices.tobytes(), np.int32, offset=1)
+        longer.data = np.append(graph.data, np.nan)
+        longer.indices = np.append(graph.indices, [5, 5]).astype(np.int32)
+        self.assertFalse(crooked.data.flags.aligned)
+        for other in (strided, crooked, longer, sparse.csr_array(graph)):
+            self.same(spectral_embedding(other), expected)
+
+    def test_no_list_is_null(self):
+        """Arrays that other software lends to NumPy may have no address if they are empty."""
+        empty = types.SimpleNamespace(size=0, ctypes=types.SimpleNamespace(data=0))
+        address, length = threshcinch._words([empty])
+        self.assertNotEqual(address, 0)
+        self.assertEqual(length, 0)
+
+    def test_no_entries(self):
+        seed, counts = spectral_embedding(sparse.csr_matrix((5, 5)), dims=3)
+        self.assertEqual((seed.shape, counts.isolated), ((5, 3), 5))
+        self.assertTrue(np.isfinite(seed).all())
+
+    def test_not_a_square_csr_matrix(self):
+        graph = random_graph(10, 2, 4)
+        for wrong in (sparse.csr_matrix((3, 4)), sparse.csr_matrix((0, 1))):
+            with self.assertRaisesRegex(ValueError, "square"):
+                spectral_embedding(wrong)
+        for wrong in (graph.tocsc(), graph.tocoo(), graph.toarray(), None):
+            with self.assertRaisesRegex(TypeError, "csr_matrix"):
+                spectral_embedding(wrong)
+        for kind in (complex, np.longdouble):
+            with self.assertRaisesRegex(TypeError, "values"):
+                spectral_embedding(graph.astype(kind))
+        graph.indptr = graph.indptr[:-1]
+        with self.assertRaisesRegex(ValueError, "arrays"):
+            spectral_embedding(graph)
+
+    def test_words_of_wrong_kinds(self):
+        graph = random_graph(10, 2, 4)
+        for words in ({"dims": 2.0}, {"dims": None}, {"rounds": 1.5}, {"degree": "20"}, {"seed_std": "much"}, {"progress": 3}):
+            with self.assertRaises((TypeError, ValueError)) as caught:
+                spectral_embedding(graph, **words)
+            self.assertNotIsInstance(caught.exception, Refusal)
+
+    def test_progress_that_raises(self):
+        graph = random_graph(50, 3, 5)
+        expected = spectral_embedding(graph)
+        for last in (0, 1, 2, 77):
+            told = []
+
+            def progress(accepted, owed):
+                told.append(accepted)
+                if accepted == last:
+                    raise Stop(accepted)
+
+            with self.assertRaises(Stop):
+                spectral_embedding(graph, progress=progress)
+            self.assertEqual(told, list(range(last + 1)))
+        self.same(spectral_embedding(graph, progress=Watch()), expected)
+
+
+class Module(Case):
+    """What the module says of the header and of a machine without the library."""
+
+    def header(self):
+        return (ROOT / "include" / "threshcinch.h").read_text()
+
+    def kind(self, kind):
+        """A field's kind in the header's words; size_t and uint64_t are one kind to ctypes."""
+        kind = kind._type_ if issubclass(kind, ctypes.Array) else kind
+        names = {ctypes.c_uint64: "whole", ctypes.c_double: "double", threshcinch.CountsRecord: "threshcinch_counts"}
+        return names.get(kind) or "threshcinch_" + kind.__name__.lower()
+
+    def test_records_are_the_headers(self):
+        for record, size in threshcinch.SIZES.items():
+            name = self.kind(record)
+            with self.subTest(record=name):
+                body = re.search(r"typedef struct \{([^}]*)\} " + name + ";", self.header()).group(1)
+                fields = re.findall(r"(\w+) (\w+)(?:\[\d+\])?;", re.sub(r"\b(size_t|uint64_t)\b", "whole", body))
+                self.assertEqual([(self.kind(kind), field) for field, kind in record._fields_], fields)
+                self.assertIn(f"sizeof({name}) == {size}", self.header())
+
+    def test_words_are_the_headers(self):
+        found = {int(number): words for number, words in re.findall(r'case (\d+): return "([^"]*)";', self.header())}
+        del found[0]
+        self.assertEqual(threshcinch.WORDS, found)
+
+    def fails(self, code, **words):
+        environment = {**os.environ, "PYTHONPATH": str(HERE), **words}
+        done = subprocess.run([sys.executable, "-c", code], env=environment, capture_output=True, text=True)
+        self.assertEqual(done.returncode, 1)
+        last = done.stderr.strip().split("\n")[-1]
+        self.assertTrue(last.startswith("ImportError: threshcinch: "), last)
+        self.assertEqual(done.stderr.count("Traceback"), 1, done.stderr)
+        return last
+
+    def test_no_library(self):
+        self.assertIn("library/build", self.fails("import threshcinch", THRESHCINCH_LIB=str(HERE / "nothing.so")))
+
+    def test_a_library_without_the_functions(self):
+        self.assertIn("threshcinch_params_new", self.fails("import threshcinch", THRESHCINCH_LIB=self.libc()))
+
+    def libc(self):
+        """The C library that this process has: a library, but not ours."""
+        maps = pathlib.Path("/proc/self/maps").read_text()
+        return re.search(r"\S*/libc(\.so\.6|-[\d.]+\.so)$", maps, re.M).group(0)
+
+    def test_another_machine(self):
+        last = self.fails("import platform; platform.machine = lambda: 'aarch64'; import threshcinch")
+        self.assertIn("x86-64", last)
+        self.assertIn("aarch64", last)
+
+    def test_the_library_is_found_by_its_name(self):
+        given = threshcinch._library._name
+        environment = {**os.environ, "PYTHONPATH": str(HERE), "THRESHCINCH_LIB": given}
+        subprocess.run([sys.executable, "-c", "import threshcinch"], env=environment, check=True)
+
+
+if __name__ == "__main__":
+    unittest.main()

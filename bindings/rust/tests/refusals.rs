@@ -1,0 +1,139 @@
+//! Each refusal that can be met from Rust, with its place: 8, 9 and 10 from the setters (tests/numbers.rs), the others here. 17 is the text
+//! program's alone.
+
+mod common;
+
+use common::{quick, refusal};
+use threshcinch::{spectral_embedding, spectral_embedding_in, spectral_embedding_with_threads, Graph, Memory, Params, Refusal, Run};
+
+/// All ways to begin refuse the same.
+fn begin(graph: Graph<'_>, dims: usize) -> Refusal {
+    let params = Params::new();
+    let refused = spectral_embedding(&graph, dims, params).expect_err("accepted");
+    assert_eq!(Run::open(&graph, dims, params).err(), Some(refused));
+    assert_eq!(spectral_embedding_with_threads(&graph, dims, params, 3).err(), Some(refused));
+    refused
+}
+
+#[test]
+fn number_1_dims() {
+    let graph = Graph::new(&[0, 0], &[], &[]);
+    assert_eq!(begin(graph, 0), refusal(1, 0));
+    assert_eq!(begin(graph, 8), refusal(1, 0));
+    assert_eq!(begin(graph, usize::MAX), refusal(1, 0));
+    // 1 is tested before 2.
+    assert_eq!(begin(Graph::new(&[], &[], &[]), 0), refusal(1, 0));
+}
+
+#[test]
+fn number_2_no_rows() {
+    assert_eq!(begin(Graph::new(&[], &[], &[]), 1), refusal(2, 0));
+    assert_eq!(begin(Graph::new(&[0], &[], &[]), 1), refusal(2, 0));
+}
+
+#[test]
+fn number_3_limits() {
+    let starts = vec![0; 1_048_576 + 2];
+    assert_eq!(begin(Graph::new(&starts, &[], &[]), 1), refusal(3, 0));
+    assert_eq!(Memory::lengths_for(1, 1_048_577, 0), Err(refusal(3, 0)));
+    assert_eq!(Memory::lengths_for(1, 1, 67_108_865), Err(refusal(3, 0)));
+    assert_eq!(Memory::lengths_for(1, usize::MAX, usize::MAX), Err(refusal(3, 0)));
+    assert!(Memory::lengths_for(7, 1_048_576, 67_108_864).is_ok());
+}
+
+#[test]
+fn number_4_lengths() {
+    assert_eq!(begin(Graph::new(&[0, 1], &[0], &[]), 1), refusal(4, 0));
+    assert_eq!(begin(Graph::new(&[0, 1], &[0], &[1.0, 1.0]), 1), refusal(4, 0));
+}
+
+#[test]
+fn number_5_starts() {
+    assert_eq!(begin(Graph::new(&[0, 2, 1], &[0], &[1.0]), 1), refusal(5, 2), "case 7");
+    assert_eq!(begin(Graph::new(&[1, 1], &[0], &[1.0]), 1), refusal(5, 0));
+    assert_eq!(begin(Graph::new(&[0, 0, 2], &[0], &[1.0]), 1), refusal(5, 2));
+    assert_eq!(begin(Graph::new(&[0, u64::MAX], &[0], &[1.0]), 1), refusal(5, 1));
+}
+
+#[test]
+fn number_6_column() {
+    assert_eq!(begin(Graph::new(&[0, 1], &[1], &[f64::NAN]), 1), refusal(6, 0), "case 8");
+    assert_eq!(begin(Graph::new(&[0, 2], &[0, u32::MAX], &[1.0, 1.0]), 1), refusal(6, 1));
+}
+
+#[test]
+fn number_7_value() {
+    assert_eq!(begin(Graph::new(&[0, 1], &[0], &[f64::NAN]), 1), refusal(7, 0), "case 8");
+    assert_eq!(begin(Graph::new(&[0, 3], &[0, 0, 0], &[1.0, -1.0, f64::NEG_INFINITY]), 1), refusal(7, 2));
+}
+
+/// Takes one element from a list of the memory.
+type Shorten = fn(&mut Memory);
+
+fn cut<T>(list: &mut Vec<T>) {
+    list.truncate(list.len() - 1);
+}
+
+#[test]
+fn number_11_memory() {
+    let graph = Graph::new(&[0, 1], &[0], &[1.0]);
+    let shorten: [Shorten; 10] = [
+        |memory| cut(&mut memory.inverse),
+        |memory| cut(&mut memory.v0),
+        |memory| cut(&mut memory.edge_columns),
+        |memory| cut(&mut memory.edge_weights),
+        |memory| cut(&mut memory.block0),
+        |memory| cut(&mut memory.block1),
+        |memory| cut(&mut memory.block2),
+        |memory| cut(&mut memory.partials),
+        |memory| cut(&mut memory.marks),
+        |memory| cut(&mut memory.output),
+    ];
+    for (place, shorten) in shorten.iter().enumerate() {
+        let mut memory = Memory::for_graph(&graph, 1).unwrap();
+        shorten(&mut memory);
+        assert_eq!(spectral_embedding_in(&graph, 1, quick(), &mut memory), Err(refusal(11, place as u64)));
+    }
+    assert_eq!(spectral_embedding_in(&graph, 1, quick(), &mut Memory::default()), Err(refusal(11, 0)));
+}
+
+#[test]
+fn numbers_12_to_15_one_chunk() {
+    let graph = Graph::new(&[0, 1], &[0], &[1.0]);
+    let mut run = Run::open(&graph, 1, quick()).unwrap();
+    assert_eq!(run.chunk_count(), 1);
+    assert_eq!(run.close(), Err(refusal(14, 0)));
+    assert_eq!(run.chunk(0), Ok(()));
+    assert_eq!(run.chunk(0), Err(refusal(13, 0)), "case 10");
+    assert_eq!(run.chunk(1), Err(refusal(12, 1)), "case 10");
+    assert_eq!(run.chunk(usize::MAX), Err(refusal(12, u64::MAX)));
+    assert_eq!(run.close(), Ok(()));
+    while run.is_open() {
+        run.chunk(0).unwrap();
+        run.close().unwrap();
+    }
+    assert_eq!(run.chunk(0), Err(refusal(15, 0)));
+    assert_eq!(run.close(), Err(refusal(15, 0)));
+}
+
+#[test]
+fn number_14_names_the_lowest_chunk() {
+    let starts = vec![0; 9001];
+    let mut run = Run::open(&Graph::new(&starts, &[], &[]), 1, quick()).unwrap();
+    assert_eq!(run.chunk_count(), 3);
+    run.chunk(0).unwrap();
+    run.chunk(2).unwrap();
+    assert_eq!(run.close(), Err(refusal(14, 1)));
+    assert_eq!(run.chunk(2), Err(refusal(13, 2)));
+    assert_eq!(run.chunk(3), Err(refusal(12, 3)));
+}
+
+#[test]
+fn words() {
+    let all: std::collections::HashSet<&str> = (1..=16).map(|number| refusal(number, 0).words()).collect();
+    assert_eq!(all.len(), 16, "each has words of its own");
+    assert!(!all.contains(refusal(0, 0).words()) && refusal(17, 0).words() == refusal(0, 0).words());
+    assert_eq!(refusal(6, 4).to_string(), "refusal 6: a column is not below the number of rows (entry 4)");
+    assert_eq!(refusal(15, 0).to_string(), "refusal 15: no run is open");
+    let _: &dyn std::error::Error = &refusal(1, 0);
+}

@@ -1,0 +1,257 @@
+//! Saved runs: gone on with, cut, changed, forged.
+
+mod common;
+
+use std::ops::ControlFlow;
+
+use common::{assert_same_memory, quick, refusal, ring::Ring};
+use threshcinch::{spectral_embedding_in, Driven, Graph, LoadError, Memory, Run};
+
+/// Where the parts of a save begin; src/save.rs has the table.
+const GRAPH_SUM: usize = 40;
+const LENGTHS: usize = 48;
+const STATE: usize = 128;
+const STAGE: usize = STATE + 48;
+const LISTS: usize = STATE + 5688;
+
+/// FNV-1a, written here once more: a forged save must have the right sum.
+fn sum_of(bytes: &[u8]) -> u64 {
+    let mut sum: u64 = 14_695_981_039_346_656_037;
+    for &byte in bytes {
+        sum = (sum ^ u64::from(byte)).wrapping_mul(1_099_511_628_211);
+    }
+    sum
+}
+
+fn resum(bytes: &mut [u8]) {
+    let (summed, sum) = bytes.split_last_chunk_mut::<8>().unwrap();
+    *sum = sum_of(summed).to_le_bytes();
+}
+
+/// The bytes with a whole number set and the right sum.
+fn forged(bytes: &[u8], at: usize, word: u64) -> Vec<u8> {
+    let mut bytes = bytes.to_vec();
+    bytes[at..at + 8].copy_from_slice(&word.to_le_bytes());
+    resum(&mut bytes);
+    bytes
+}
+
+fn small_graph() -> Graph<'static> {
+    Graph::new(&[0, 1, 2], &[1, 0], &[1.0, 2.0])
+}
+
+/// A run over it, a chunk into its ninth stage.
+fn small() -> Run<'static> {
+    let mut run = Run::open(&small_graph(), 1, quick()).unwrap();
+    for _ in 0..8 {
+        run.chunk(0).unwrap();
+        run.close().unwrap();
+    }
+    run.chunk(0).unwrap();
+    run
+}
+
+fn load_error(bytes: &[u8]) -> Option<LoadError> {
+    Run::load(&small_graph(), bytes).err()
+}
+
+#[test]
+fn a_run_saved_and_loaded_in_every_kind_of_stage_is_the_one_call() {
+    let ring = Ring::new(9000, 50, 11);
+    let graph = ring.graph();
+    let mut memory = Memory::for_graph(&graph, 1).unwrap();
+    let counts = spectral_embedding_in(&graph, 1, quick(), &mut memory).unwrap();
+    let orders = [[0, 1, 2], [0, 2, 1], [1, 0, 2], [1, 2, 0], [2, 0, 1], [2, 1, 0]];
+    let mut run = Run::open(&graph, 1, quick()).unwrap();
+    let mut saved = std::collections::BTreeSet::new();
+    for order in orders.iter().cycle() {
+        let [first, second, third] = *order;
+        run.chunk(first).unwrap();
+        run.chunk(second).unwrap();
+        // Once in the middle of each kind of stage: the bytes are all that goes on.
+        if saved.insert(run.progress().stage) {
+            run = Run::load(&graph, &run.save()).unwrap();
+        }
+        assert_eq!(run.chunk(first), Err(refusal(13, first as u64)), "it was done before the save");
+        run.chunk(third).unwrap();
+        run.close().unwrap();
+        if !run.is_open() {
+            break;
+        }
+    }
+    assert_eq!(saved.len(), 19, "every kind of stage");
+    let ended = Run::load(&graph, &run.save()).unwrap();
+    assert_same_memory(ended.memory(), &memory);
+    assert!(ended.state().same_bits(run.state()));
+    assert_eq!(ended.finish().unwrap().counts, counts);
+}
+
+#[test]
+fn a_loaded_run_may_be_driven_on_by_threads() {
+    let ring = Ring::new(9000, 50, 12);
+    let graph = ring.graph();
+    let mut run = Run::open(&graph, 1, quick()).unwrap();
+    run.drive(2, |progress| if progress.accepted < 100 { ControlFlow::Continue(()) } else { ControlFlow::Break(()) }).unwrap();
+    run.chunk(1).unwrap();
+    let mut loaded = Run::load(&graph, &run.save()).unwrap();
+    for run in [&mut run, &mut loaded] {
+        assert_eq!(run.drive(3, |_| ControlFlow::Continue(())), Ok(Driven::Ended));
+    }
+    assert_same_memory(run.memory(), loaded.memory());
+    assert!(run.state().same_bits(loaded.state()));
+}
+
+#[test]
+fn a_save_holds_the_run_and_nothing_else() {
+    let run = small();
+    let bytes = run.save();
+    let loaded = Run::load(&small_graph(), &bytes).unwrap();
+    assert_same_memory(loaded.memory(), run.memory());
+    assert!(loaded.state().same_bits(run.state()));
+    assert_eq!((loaded.progress(), loaded.save()), (run.progress(), bytes));
+}
+
+#[test]
+fn every_changed_bit_is_refused() {
+    let mut bytes = small().save();
+    for at in 0..bytes.len() {
+        for bit in 0..8 {
+            bytes[at] ^= 1 << bit;
+            let expected = match at {
+                0..8 => Some(LoadError::NotASave),
+                8..16 => load_error(&bytes).filter(|error| matches!(error, LoadError::Version(_))),
+                16..LENGTHS => Some(LoadError::CheckSum),
+                LENGTHS..STATE => Some(LoadError::Length),
+                _ => Some(LoadError::CheckSum),
+            };
+            assert!(expected.is_some());
+            assert_eq!(load_error(&bytes), expected, "byte {at} bit {bit}");
+            bytes[at] ^= 1 << bit;
+        }
+    }
+    assert_eq!(load_error(&bytes), None);
+}
+
+#[test]
+fn every_cut_and_every_addition_is_refused() {
+    let mut bytes = small().save();
+    for length in 0..bytes.len() {
+        assert_eq!(load_error(&bytes[..length]), Some(LoadError::Length));
+    }
+    bytes.push(0);
+    assert_eq!(load_error(&bytes), Some(LoadError::Length));
+    resum(&mut bytes);
+    assert_eq!(load_error(&bytes), Some(LoadError::Length));
+}
+
+#[test]
+fn lengths_that_no_machine_has_are_refused() {
+    let bytes = small().save();
+    for list in 0..10 {
+        for length in [u64::MAX, u64::MAX / 2, 1 << 61, 1 << 40] {
+            assert_eq!(load_error(&forged(&bytes, LENGTHS + 8 * list, length)), Some(LoadError::Length));
+        }
+    }
+}
+
+#[test]
+fn another_graph_is_refused() {
+    let bytes = small().save();
+    let others = [
+        Graph::new(&[0, 1, 2], &[1, 0], &[1.0, 2.5]),
+        Graph::new(&[0, 1, 2], &[1, 1], &[1.0, 2.0]),
+        Graph::new(&[0, 2, 2], &[1, 0], &[1.0, 2.0]),
+        Graph::new(&[0, 1], &[0], &[1.0]),
+        Graph::new(&[], &[], &[]),
+    ];
+    for graph in others {
+        assert_eq!(Run::load(&graph, &bytes).err(), Some(LoadError::OtherGraph));
+    }
+    assert_eq!(load_error(&forged(&bytes, GRAPH_SUM, 0)), Some(LoadError::OtherGraph));
+}
+
+#[test]
+fn starts_that_fall_are_refused_even_with_the_right_sum() {
+    let bytes = small().save();
+    let load_over = |starts: [u64; 3]| {
+        let lists =
+            [starts.map(u64::to_le_bytes).concat(), [1u32, 0].map(u32::to_le_bytes).concat(), [1.0f64, 2.0].map(f64::to_le_bytes).concat()];
+        Run::load(&Graph::new(&starts, &[1, 0], &[1.0, 2.0]), &forged(&bytes, GRAPH_SUM, sum_of(&lists.concat()))).err()
+    };
+    assert_eq!(load_over([0, 1, 2]), None, "the graph's sum is as forged here");
+    assert_eq!(load_over([0, 2, 1]), Some(LoadError::OtherGraph));
+}
+
+#[test]
+fn number_16_a_forged_state() {
+    let bytes = small().save();
+    let damaged = Some(LoadError::Refused(refusal(16, 0)));
+    // D, rows, entries, rounds, degree, seed_std.
+    for (field, word) in [(0, 0), (0, 8), (1, 0), (1, u64::MAX), (2, u64::MAX), (3, 0), (3, 1001), (4, 0), (4, 1001), (5, 0), (5, u64::MAX)]
+    {
+        assert_eq!(load_error(&forged(&bytes, STATE + 8 * field, word)), damaged, "asked, field {field}");
+    }
+    // Stage, round, pass, column, attempt, current, previous, bound, alpha.
+    for (field, word) in [(0, 21), (0, u64::MAX), (1, 1), (2, 2), (3, 9), (4, 2), (5, 3), (6, 3), (7, 0), (8, 0), (8, u64::MAX)] {
+        assert_eq!(load_error(&forged(&bytes, STAGE + 8 * field, word)), damaged, "progress, field {field}");
+    }
+    // Counts, and the last of the Ritz places.
+    for field in 0..4 {
+        assert_eq!(load_error(&forged(&bytes, STAGE + 88 + 8 * field, u64::MAX)), damaged, "counts, field {field}");
+    }
+    assert_eq!(load_error(&forged(&bytes, LISTS - 8, 9)), damaged);
+}
+
+#[test]
+fn sizes_that_are_not_the_graphs_are_refused() {
+    let bytes = small().save();
+    for (field, word) in [(0, 2), (1, 1), (1, 3), (2, 1), (2, 3)] {
+        assert_eq!(load_error(&forged(&bytes, STATE + 8 * field, word)), Some(LoadError::Lists));
+    }
+}
+
+#[test]
+fn number_15_a_save_with_no_run() {
+    assert_eq!(load_error(&forged(&small().save(), STAGE, 0)), Some(LoadError::Refused(refusal(15, 0))));
+}
+
+#[test]
+fn number_16_a_forged_mark_or_column() {
+    let ring = Ring::new(9000, 50, 13);
+    let graph = ring.graph();
+    let run = Run::open(&graph, 1, quick()).unwrap();
+    let lengths = run.memory().lengths();
+    let bytes = run.save();
+    let marks = bytes.len() - 8 - 8 * lengths[9] - lengths[8];
+    let mut marked = bytes.clone();
+    marked[marks + 1] = 2;
+    resum(&mut marked);
+    let mut loaded = Run::load(&graph, &marked).unwrap();
+    assert_eq!(loaded.chunk(1), Err(refusal(16, 0)));
+    assert_eq!(loaded.chunk(0), Ok(()));
+    assert_eq!(loaded.close(), Err(refusal(16, 0)));
+    for threads in [1, 2, 3] {
+        let mut loaded = Run::load(&graph, &marked).unwrap();
+        assert_eq!(loaded.drive(threads, |_| ControlFlow::Continue(())), Err(refusal(16, 0)));
+        assert!(loaded.is_open());
+    }
+    // An edge column past the rows, once edges are made: the next pass of its chunk meets it.
+    let mut run = run;
+    run.drive(2, |progress| if progress.stage == "filter pass" { ControlFlow::Break(()) } else { ControlFlow::Continue(()) }).unwrap();
+    let edge_columns = LISTS + 8 * (lengths[0] + lengths[1]);
+    let last = forged(&run.save(), edge_columns + 4 * (lengths[2] - 2), u64::MAX);
+    for threads in [1, 2, 8] {
+        let mut loaded = Run::load(&graph, &last).unwrap();
+        assert_eq!(loaded.drive(threads, |_| ControlFlow::Continue(())), Err(refusal(16, 0)));
+        assert_eq!(loaded.progress().stage, "filter pass");
+    }
+}
+
+#[test]
+fn errors_have_words() {
+    assert_eq!(load_error(b"").unwrap().to_string(), "the saved run has fewer or more bytes than it says");
+    assert_eq!(load_error(b"something else").unwrap().to_string(), "the bytes are not a saved run");
+    let refused = LoadError::Refused(refusal(16, 0));
+    assert_eq!(refused.to_string(), "the saved run is not taken: refusal 16: the state, or a list for it, is damaged");
+    assert!(std::error::Error::source(&refused).is_some());
+}

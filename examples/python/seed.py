@@ -1,0 +1,17 @@
+"""From points to a seed: a neighbour graph with SciPy, then its spectral seed."""
+import numpy as np
+import threshcinch
+from scipy import sparse, spatial
+
+# three heaps of points in space, each point with its ten nearest neighbours
+points = np.random.default_rng(1).random((300, 3)) + np.repeat(np.eye(3) * 1.5, 100, axis=0)
+distances, neighbours = spatial.cKDTree(points).query(points, k=11)
+weights = 1 / (1 + distances[:, 1:] ** 2)
+graph = sparse.csr_matrix((weights.ravel(), neighbours[:, 1:].ravel(), np.arange(0, 3001, 10)), shape=(300, 300))
+
+# a neighbour of one is made a neighbour of both, so that the graph is symmetric
+seed, counts = threshcinch.spectral_embedding(graph + graph.T, dims=2)
+
+print(counts)
+for heap in range(3):
+    print("heap", heap, "lies around", seed[100 * heap : 100 * heap + 100].mean(axis=0))
