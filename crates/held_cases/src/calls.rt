@@ -1,11 +1,22 @@
-// The calls of a run, one after the other, and whether each answers what it must.
+// A run's calls, and whether each answers what it must.
 use crate::damage;
 use crate::digest;
 use crate::lists;
+use crate::lists::Block;
+use crate::lists::Columns;
+use crate::lists::EdgeColumns;
+use crate::lists::EdgeWeights;
+use crate::lists::Marks;
+use crate::lists::Output;
+use crate::lists::Partials;
+use crate::lists::Rows;
 use crate::lists::Sizes;
+use crate::lists::Starts;
+use crate::lists::Values;
 use crate::plan;
 use crate::plan::Call;
 use crate::plan::Walk;
+use input::SpectralParams;
 use state::Answer;
 use state::State;
 
@@ -25,7 +36,30 @@ pub struct Seen {
 
 // ---- judging
 
-fn given_state(run: Run, kind: u64) -> State {
+fn stage_of(state: State) -> usize {
+    let progress = state.progress;
+    progress.stage
+}
+
+fn entries_of(state: State) -> usize {
+    let asked = state.asked;
+    asked.entries
+}
+
+pub fn is_over(run: Run) -> bool {
+    let walk = run.walk;
+    let state = run.state;
+    plan::is_over(walk, stage_of(state))
+}
+
+// The call that comes next.
+pub fn planned(run: Run) -> Call {
+    let walk = run.walk;
+    let state = run.state;
+    plan::planned(walk, entries_of(state), stage_of(state))
+}
+
+pub fn given_state(run: Run, kind: u64) -> State {
     let state = run.state;
     let empty = run.empty;
     if kind == 0 {
@@ -51,7 +85,7 @@ fn is_right(call: Call, given: State, seen: Seen) -> bool {
     if !seen.is_kept {
         return false;
     }
-    if call.kind == 2 {
+    if call.kind == plan::CLOSING {
         if call.refusal == 0 {
             return true;
         }
@@ -64,292 +98,94 @@ fn walked(w: Walk, call: Call) -> Walk {
     if call.refusal != 0 {
         return plan::after_refused(w, call.refusal);
     }
-    if call.kind == 1 {
+    if call.kind == plan::CHUNK {
         return plan::after_chunk(w, call.number);
     }
     plan::after_close(w)
 }
 
-fn judged(run: Run, call: Call, given: State, seen: Seen) -> Run {
-    let walk = run.walk;
-    let answer = seen.answer;
-    let state = answer.state;
-    let mut next = run;
+// A refused call leaves the state as it was.
+fn state_after(run: Run, call: Call, answered: State) -> State {
+    let state = run.state;
     if call.refusal == 0 {
-        next.state = state;
+        return answered;
     }
-    let on = walked(walk, call);
-    if is_right(call, given, seen) {
-        next.walk = on;
-        return next;
-    }
-    let wrong = plan::with_wrong(on);
-    next.walk = wrong;
+    state
+}
+
+// The run with something wrong in it, or as it was.
+pub fn marked(run: Run, is_wrong: bool) -> Run {
+    let walk = run.walk;
+    let mut next = run;
+    next.walk = plan::judged(walk, is_wrong);
     next
 }
 
-// ---- one call
-
-// As many row starts as a call is lent: one too few where they are spoiled.
-fn lent_starts(call: Call, rows: usize) -> usize {
-    if call.spoiled == plan::STARTS {
-        return rows;
-    }
-    0xffff_ffff_ffff_ffff
-}
-
-fn called(
-    call: Call,
-    given: State,
-    starts: &[u64],
-    columns: &[u32],
-    values: &[f64],
-    inverse: &mut [f64],
-    v0: &mut [f64],
-    edge_columns: &mut [u32],
-    edge_weights: &mut [f64],
-    block0: &mut [f64],
-    block1: &mut [f64],
-    block2: &mut [f64],
-    partials: &mut [f64],
-    marks: &mut [u8],
-    output: &mut [f64],
-) -> Answer {
-    let kind = call.kind;
-    let number = call.number;
-    if kind == 2 {
-        return run::close(
-            given,
-            starts,
-            columns,
-            values,
-            inverse,
-            v0,
-            edge_columns,
-            edge_weights,
-            block0,
-            block1,
-            block2,
-            partials,
-            marks,
-            output,
-        );
-    }
-    run::chunk(
-        given,
-        number,
-        starts,
-        columns,
-        values,
-        inverse,
-        v0,
-        edge_columns,
-        edge_weights,
-        block0,
-        block1,
-        block2,
-        partials,
-        marks,
-        output,
-    )
-}
-
-// The call, with what it is to find spoiled, which is mended after it.
-fn called_spoiled(
-    call: Call,
-    given: State,
-    starts: &[u64],
-    columns: &[u32],
-    values: &[f64],
-    inverse: &mut [f64],
-    v0: &mut [f64],
-    edge_columns: &mut [u32],
-    edge_weights: &mut [f64],
-    block0: &mut [f64],
-    block1: &mut [f64],
-    block2: &mut [f64],
-    partials: &mut [f64],
-    marks: &mut [u8],
-    output: &mut [f64],
-) -> Answer {
-    let number = call.number;
-    let is_mark = call.spoiled == plan::MARK;
-    let is_edge = call.spoiled == plan::EDGE;
-    let asked = given.asked;
-    let lent = lists::front_starts(starts, lent_starts(call, asked.rows));
-    let mark = lists::swap_mark(marks, number, is_mark, 2);
-    let column = lists::swap_column(edge_columns, is_edge, 0xffff_ffff);
-    let answer = called(
-        call,
-        given,
-        lent,
-        columns,
-        values,
-        inverse,
-        v0,
-        edge_columns,
-        edge_weights,
-        block0,
-        block1,
-        block2,
-        partials,
-        marks,
-        output,
-    );
-    lists::swap_mark(marks, number, is_mark, mark);
-    lists::swap_column(edge_columns, is_edge, column);
-    answer
-}
-
-// The lists' digest where they are watched, and 0 elsewhere.
-fn watched_digest(
-    is_watched: bool,
-    sizes: Sizes,
-    inverse: &[f64],
-    v0: &[f64],
-    edge_columns: &[u32],
-    edge_weights: &[f64],
-    block0: &[f64],
-    block1: &[f64],
-    block2: &[f64],
-    partials: &[f64],
-    marks: &[u8],
-    output: &[f64],
-) -> u64 {
-    if !is_watched {
-        return 0;
-    }
-    digest::of_lists(
-        sizes,
-        inverse,
-        v0,
-        edge_columns,
-        edge_weights,
-        block0,
-        block1,
-        block2,
-        partials,
-        marks,
-        output,
-    )
-}
-
-fn watched_call(
-    sizes: Sizes,
-    call: Call,
-    given: State,
-    starts: &[u64],
-    columns: &[u32],
-    values: &[f64],
-    inverse: &mut [f64],
-    v0: &mut [f64],
-    edge_columns: &mut [u32],
-    edge_weights: &mut [f64],
-    block0: &mut [f64],
-    block1: &mut [f64],
-    block2: &mut [f64],
-    partials: &mut [f64],
-    marks: &mut [u8],
-    output: &mut [f64],
-) -> Seen {
-    let is_watched = call.watched;
-    let before = watched_digest(
-        is_watched,
-        sizes,
-        inverse,
-        v0,
-        edge_columns,
-        edge_weights,
-        block0,
-        block1,
-        block2,
-        partials,
-        marks,
-        output,
-    );
-    let answer = called_spoiled(
-        call,
-        given,
-        starts,
-        columns,
-        values,
-        inverse,
-        v0,
-        edge_columns,
-        edge_weights,
-        block0,
-        block1,
-        block2,
-        partials,
-        marks,
-        output,
-    );
-    let after = watched_digest(
-        is_watched,
-        sizes,
-        inverse,
-        v0,
-        edge_columns,
-        edge_weights,
-        block0,
-        block1,
-        block2,
-        partials,
-        marks,
-        output,
-    );
-    Seen {
-        answer,
-        is_kept: before == after,
-    }
-}
-
-// ---- many calls
-
-fn stage_of(state: State) -> usize {
-    let progress = state.progress;
-    progress.stage
-}
-
-fn entries_of(state: State) -> usize {
-    let asked = state.asked;
-    asked.entries
-}
-
-// One step of the walk.
-fn stepped(
-    run: Run,
-    starts: &[u64],
-    columns: &[u32],
-    values: &[f64],
-    inverse: &mut [f64],
-    v0: &mut [f64],
-    edge_columns: &mut [u32],
-    edge_weights: &mut [f64],
-    block0: &mut [f64],
-    block1: &mut [f64],
-    block2: &mut [f64],
-    partials: &mut [f64],
-    marks: &mut [u8],
-    output: &mut [f64],
-) -> Run {
+// The run after a call.
+fn after_call(run: Run, call: Call, seen: Seen) -> Run {
     let walk = run.walk;
-    let state = run.state;
-    let call = plan::planned(walk, entries_of(state), stage_of(state));
-    if call.kind == 0 {
+    let answer = seen.answer;
+    let answered = answer.state;
+    let is_wrong = !is_right(call, given_state(run, call.given), seen);
+    let mut next = run;
+    next.state = state_after(run, call, answered);
+    next.walk = plan::judged(walked(walk, call), is_wrong);
+    next
+}
+
+// The run after a step, which may have no call.
+pub fn judged(run: Run, seen: Seen) -> Run {
+    let walk = run.walk;
+    let call = planned(run);
+    if call.kind == plan::NO_CALL {
         let mut next = run;
         next.walk = plan::stepped(walk);
         return next;
     }
-    let given = given_state(run, call.given);
-    let sizes = run.sizes;
-    let s = watched_call(
-        sizes,
-        call,
+    after_call(run, call, seen)
+}
+
+// ---- one call
+
+// What is called: nothing, a chunk by its number, closing, or opening; with what state, what is asked, and how much of the graph is lent.
+pub struct Asking {
+    pub kind: u64,
+    pub number: usize,
+    pub given: State,
+    pub dims: u64,
+    pub rounds: u64,
+    pub degree: u64,
+    pub starts: usize,
+    pub entries: usize,
+}
+
+// A chunk of the stage at hand.
+fn chunk_answered(
+    asking: Asking,
+    starts: &Starts,
+    columns: &Columns,
+    values: &Values,
+    inverse: &mut Rows,
+    v0: &mut Rows,
+    edge_columns: &mut EdgeColumns,
+    edge_weights: &mut EdgeWeights,
+    block0: &mut Block,
+    block1: &mut Block,
+    block2: &mut Block,
+    partials: &mut Partials,
+    marks: &mut Marks,
+    output: &mut Output,
+) -> Answer {
+    let given = asking.given;
+    let s = lists::front_starts(starts, asking.starts);
+    let c = lists::front_columns(columns, asking.entries);
+    let v = lists::front_floats(values, asking.entries);
+    run::chunk(
         given,
-        starts,
-        columns,
-        values,
+        asking.number,
+        s,
+        c,
+        v,
         inverse,
         v0,
         edge_columns,
@@ -360,42 +196,96 @@ fn stepped(
         partials,
         marks,
         output,
-    );
-    judged(run, call, given, s)
+    )
 }
 
-fn is_over(run: Run) -> bool {
-    let walk = run.walk;
-    let state = run.state;
-    plan::is_over(walk, stage_of(state))
+// Closing, or opening: the lists are read, and the marks alone are written.
+fn reading_answered(
+    asking: Asking,
+    starts: &Starts,
+    columns: &Columns,
+    values: &Values,
+    inverse: &Rows,
+    v0: &Rows,
+    edge_columns: &EdgeColumns,
+    edge_weights: &EdgeWeights,
+    block0: &Block,
+    block1: &Block,
+    block2: &Block,
+    partials: &Partials,
+    marks: &mut Marks,
+    output: &Output,
+) -> Answer {
+    let given = asking.given;
+    let s = lists::front_starts(starts, asking.starts);
+    let c = lists::front_columns(columns, asking.entries);
+    let v = lists::front_floats(values, asking.entries);
+    if asking.kind == plan::CLOSING {
+        return run::close(
+            given,
+            s,
+            c,
+            v,
+            inverse,
+            v0,
+            edge_columns,
+            edge_weights,
+            block0,
+            block1,
+            block2,
+            partials,
+            marks,
+            output,
+        );
+    }
+    let params = SpectralParams {
+        rounds: asking.rounds,
+        degree: asking.degree,
+        seed_std: SpectralParams::DEFAULT_SEED_STD,
+    };
+    run::open(
+        asking.dims,
+        params,
+        s,
+        c,
+        v,
+        inverse,
+        v0,
+        edge_columns,
+        edge_weights,
+        block0,
+        block1,
+        block2,
+        partials,
+        marks,
+        output,
+    )
 }
 
-// The run some steps further, or at its end.
-pub fn gone_on(
-    run: Run,
-    steps: usize,
-    starts: &[u64],
-    columns: &[u32],
-    values: &[f64],
-    inverse: &mut [f64],
-    v0: &mut [f64],
-    edge_columns: &mut [u32],
-    edge_weights: &mut [f64],
-    block0: &mut [f64],
-    block1: &mut [f64],
-    block2: &mut [f64],
-    partials: &mut [f64],
-    marks: &mut [u8],
-    output: &mut [f64],
-) -> Run {
-    let mut r = run;
-    let mut i = 0;
-    while i < steps {
-        if is_over(r) {
-            return r;
-        }
-        r = stepped(
-            r,
+// The call's answer; where nothing is called, the answer before.
+pub fn answered(
+    asking: Asking,
+    last: Answer,
+    starts: &Starts,
+    columns: &Columns,
+    values: &Values,
+    inverse: &mut Rows,
+    v0: &mut Rows,
+    edge_columns: &mut EdgeColumns,
+    edge_weights: &mut EdgeWeights,
+    block0: &mut Block,
+    block1: &mut Block,
+    block2: &mut Block,
+    partials: &mut Partials,
+    marks: &mut Marks,
+    output: &mut Output,
+) -> Answer {
+    if asking.kind == plan::NO_CALL {
+        return last;
+    }
+    if asking.kind == plan::CHUNK {
+        return chunk_answered(
+            asking,
             starts,
             columns,
             values,
@@ -410,7 +300,21 @@ pub fn gone_on(
             marks,
             output,
         );
-        i += 1;
     }
-    r
+    reading_answered(
+        asking,
+        starts,
+        columns,
+        values,
+        inverse,
+        v0,
+        edge_columns,
+        edge_weights,
+        block0,
+        block1,
+        block2,
+        partials,
+        marks,
+        output,
+    )
 }

@@ -1,6 +1,5 @@
 // Digests: the oracle's of a seed, and one of a state and of lists, by which runs in different orders are compared.
 use crate::lists;
-use crate::lists::Sizes;
 use state::Asked;
 use state::Counts;
 use state::Progress;
@@ -37,7 +36,7 @@ fn with_bytes(digest: u64, bits: u64) -> u64 {
     d
 }
 
-pub fn of_seed(seed: &[f64]) -> u64 {
+fn of_numbers(seed: &[f64]) -> u64 {
     let mut d = EMPTY;
     let mut i = 0;
     while i < seed.len() {
@@ -45,6 +44,11 @@ pub fn of_seed(seed: &[f64]) -> u64 {
         i += 1;
     }
     d
+}
+
+// A seed stands at the front of its list.
+pub fn of_seed(list: &[f64], count: usize) -> u64 {
+    of_numbers(lists::front_floats(list, count))
 }
 
 // ---- the digest of states and lists: the same, a whole number at a time
@@ -151,30 +155,4 @@ pub fn of_state(s: State) -> u64 {
     let d4 = with_matrix(d3, &matrix);
     let d5 = with_matrix(d4, &vectors);
     with_places(d5, &order)
-}
-
-// The ten lent lists, in document 01's order.
-pub fn of_lists(
-    sizes: Sizes,
-    inverse: &[f64],
-    v0: &[f64],
-    edge_columns: &[u32],
-    edge_weights: &[f64],
-    block0: &[f64],
-    block1: &[f64],
-    block2: &[f64],
-    partials: &[f64],
-    marks: &[u8],
-    output: &[f64],
-) -> u64 {
-    let d0 = with_floats(EMPTY, lists::front_floats(inverse, sizes.rows));
-    let d1 = with_floats(d0, lists::front_floats(v0, sizes.rows));
-    let d2 = with_columns(d1, lists::front_columns(edge_columns, sizes.entries));
-    let d3 = with_floats(d2, lists::front_floats(edge_weights, sizes.entries));
-    let d4 = with_floats(d3, lists::front_floats(block0, sizes.block));
-    let d5 = with_floats(d4, lists::front_floats(block1, sizes.block));
-    let d6 = with_floats(d5, lists::front_floats(block2, sizes.block));
-    let d7 = with_floats(d6, lists::front_floats(partials, sizes.partials));
-    let d8 = with_marks(d7, lists::front_marks(marks, sizes.marks));
-    with_floats(d8, lists::front_floats(output, sizes.output))
 }

@@ -1,5 +1,11 @@
 // The graphs of the oracle's `big` rule (oracle/README.md): rings, and hubs where the graph's number is divisible by 4. Hubs of one row
 // have no entries, which is document 01's case 11.
+use crate::lists::Columns;
+use crate::lists::ENTRIES_MOST;
+use crate::lists::STARTS_MOST;
+use crate::lists::Starts;
+use crate::lists::Values;
+use crate::whole::Turn;
 
 // The value of an entry: the pair of its row and column decides it, in either order.
 fn pair_value(number: u64, low: u64, high: u64) -> f64 {
@@ -19,13 +25,10 @@ fn put_entry(
     i: usize,
     j: usize,
     at: usize,
-    columns: &mut [u32],
-    values: &mut [f64],
+    columns: &mut Columns,
+    values: &mut Values,
 ) -> usize {
-    if columns.len() <= at {
-        return at;
-    }
-    if values.len() <= at {
+    if ENTRIES_MOST <= at {
         return at;
     }
     columns[at] = (j % 0x1_0000_0000) as u32;
@@ -33,8 +36,8 @@ fn put_entry(
     at + 1
 }
 
-fn put_start(starts: &mut [u64], i: usize, at: usize) {
-    if i < starts.len() {
+fn put_start(starts: &mut Starts, i: usize, at: usize) {
+    if i < STARTS_MOST {
         starts[i] = at as u64;
     }
 }
@@ -62,8 +65,8 @@ fn ring_row(
     n: usize,
     i: usize,
     first: usize,
-    columns: &mut [u32],
-    values: &mut [f64],
+    columns: &mut Columns,
+    values: &mut Values,
 ) -> usize {
     let mut at = first;
     let mut e = 0;
@@ -88,8 +91,8 @@ fn hub_row(
     n: usize,
     i: usize,
     first: usize,
-    columns: &mut [u32],
-    values: &mut [f64],
+    columns: &mut Columns,
+    values: &mut Values,
 ) -> usize {
     let mut at = first;
     let mut j = 4;
@@ -108,8 +111,8 @@ fn spoke_row(
     number: u64,
     i: usize,
     first: usize,
-    columns: &mut [u32],
-    values: &mut [f64],
+    columns: &mut Columns,
+    values: &mut Values,
 ) -> usize {
     let own = i % 4;
     let at = put_entry(number, i, (own + 1) % 4, first, columns, values);
@@ -121,8 +124,8 @@ fn put_row(
     n: usize,
     i: usize,
     first: usize,
-    columns: &mut [u32],
-    values: &mut [f64],
+    columns: &mut Columns,
+    values: &mut Values,
 ) -> usize {
     if number % 4 != 0 {
         return ring_row(number, n, i, first, columns, values);
@@ -134,12 +137,12 @@ fn put_row(
 }
 
 // Makes the graph of n rows at the front of the lists, and answers how many entries it has.
-pub fn put_graph(
+fn put_graph(
     number: u64,
     n: usize,
-    starts: &mut [u64],
-    columns: &mut [u32],
-    values: &mut [f64],
+    starts: &mut Starts,
+    columns: &mut Columns,
+    values: &mut Values,
 ) -> usize {
     let mut at = 0;
     let mut i = 0;
@@ -150,4 +153,18 @@ pub fn put_graph(
     }
     put_start(starts, n, at);
     at
+}
+
+// The graph made, where a new one is wanted. Answers how many entries it has, or those of the graph that is there.
+pub fn made_anew(
+    turn: Turn,
+    entries: usize,
+    starts: &mut Starts,
+    columns: &mut Columns,
+    values: &mut Values,
+) -> usize {
+    if turn.is_new {
+        return put_graph(turn.number, turn.rows, starts, columns, values);
+    }
+    entries
 }

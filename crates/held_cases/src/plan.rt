@@ -21,7 +21,16 @@ pub const EDGE: u64 = 2;
 
 pub const STARTS: u64 = 3;
 
-// No call, a chunk or closing; the chunk's number; the state that it is given (0 the run's own, else a kind of damage); what is spoiled;
+// What is called.
+pub const NO_CALL: u64 = 0;
+
+pub const CHUNK: u64 = 1;
+
+pub const CLOSING: u64 = 2;
+
+pub const OPENING: u64 = 3;
+
+// What is called; the chunk's number; the state that it is given (0 the run's own, else a kind of damage); what is spoiled;
 // the refusal that it must meet, with its place; and whether all lists are compared before and after it.
 pub struct Call {
     pub kind: u64,
@@ -140,7 +149,7 @@ fn chosen(w: Walk, turn: usize) -> usize {
 
 fn no_call() -> Call {
     Call {
-        kind: 0,
+        kind: NO_CALL,
         number: 0,
         given: 0,
         spoiled: 0,
@@ -152,7 +161,7 @@ fn no_call() -> Call {
 
 fn chunk_call(number: usize, refusal: u64, place: u64) -> Call {
     Call {
-        kind: 1,
+        kind: CHUNK,
         number,
         given: 0,
         spoiled: 0,
@@ -164,7 +173,7 @@ fn chunk_call(number: usize, refusal: u64, place: u64) -> Call {
 
 fn close_call(refusal: u64, place: u64) -> Call {
     Call {
-        kind: 2,
+        kind: CLOSING,
         number: 0,
         given: 0,
         spoiled: 0,
@@ -376,8 +385,12 @@ pub fn after_close(w: Walk) -> Walk {
     v
 }
 
-pub fn with_wrong(w: Walk) -> Walk {
+fn raised_where(is_meant: bool, x: u64) -> u64 {
+    if is_meant { raised(x) } else { x }
+}
+
+pub fn judged(w: Walk, is_wrong: bool) -> Walk {
     let mut v = w;
-    v.wrong = raised(w.wrong);
+    v.wrong = raised_where(is_wrong, w.wrong);
     v
 }

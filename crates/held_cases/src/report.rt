@@ -115,6 +115,13 @@ fn print_bits(name: &[u8], x: u64) {
     io::print_hex(STDOUT_FILENO, x, 16);
 }
 
+fn print_asked(case: Case) {
+    print_number(b" ", case.dims);
+    print_number(b" ", case.rounds);
+    print_number(b" ", case.degree);
+    io::write_all(STDOUT_FILENO, b":");
+}
+
 fn print_case(case: Case) {
     if case.rows == 1 {
         io::write_all(STDOUT_FILENO, b"one row, no entries:");
@@ -122,10 +129,7 @@ fn print_case(case: Case) {
     }
     print_number(b"big ", case.rows as u64);
     print_number(b" ", case.number);
-    print_number(b" ", case.dims);
-    print_number(b" ", case.rounds);
-    print_number(b" ", case.degree);
-    io::write_all(STDOUT_FILENO, b":");
+    print_asked(case);
 }
 
 fn print_same(differences: u64) {
@@ -137,29 +141,37 @@ fn print_same(differences: u64) {
     io::write_all(STDOUT_FILENO, b"\n");
 }
 
+fn print_counts(upward: End) {
+    print_number(b" passes=", upward.passes);
+    print_number(b" refreshed=", upward.refreshed);
+    print_number(b" zeroed=", upward.zeroed);
+    print_number(b" isolated=", upward.isolated);
+}
+
 fn print_line(case: Case, t: Tally) {
     let upward = t.upward;
     print_case(case);
     print_number(b" orders=", plan::ORDERS as u64);
     print_bits(b" digest=", upward.digest);
-    print_number(b" passes=", upward.passes);
-    print_number(b" refreshed=", upward.refreshed);
-    print_number(b" zeroed=", upward.zeroed);
-    print_number(b" isolated=", upward.isolated);
+    print_counts(upward);
     print_number(b" calls=", upward.accepted);
     print_number(b" refused=", t.refused_here);
     print_same(t.differences_here);
+}
+
+fn print_refused(refused: Refused) {
+    print_number(b" refused by 12=", refused.by12);
+    print_number(b" 13=", refused.by13);
+    print_number(b" 14=", refused.by14);
+    print_number(b" 15=", refused.by15);
+    print_number(b" 16=", refused.by16);
 }
 
 pub fn print_all(t: Tally) {
     let refused = t.refused;
     print_number(b"runs=", t.runs);
     print_number(b" calls=", t.accepted);
-    print_number(b" refused by 12=", refused.by12);
-    print_number(b" 13=", refused.by13);
-    print_number(b" 14=", refused.by14);
-    print_number(b" 15=", refused.by15);
-    print_number(b" 16=", refused.by16);
+    print_refused(refused);
     print_number(b" differences=", t.differences);
     io::write_all(STDOUT_FILENO, b"\n");
 }

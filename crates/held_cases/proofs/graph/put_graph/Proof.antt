@@ -1,14 +1,12 @@
 -- `held_cases::graph::put_graph` is safe. Assumes nothing.
-use mathlib.Core.Path.{_≡_}
-use Prim.Native.Nat.{_-_}
+use Prim.Native.Nat.{_≤_, _-_}
 use native.Mathlib.Omega.{arith}
 use borrow.Author.Needs.{needs}
-use lib.ListN.{length}
 use Rattle.held_cases.proofs.graph.put_graph.Statement.{statement}
 use Rattle.held_cases.proofs.graph.put_graph.Tie as tie
 
 abbrev Inv-loop : tie.InvT-loop
-Inv-loop number n starts₀ columns₀ values₀ at₀ i₀ starts columns values at i = (length starts ≡ length starts₀) × (length columns ≡ length columns₀) × (length values ≡ length values₀)
+Inv-loop number n starts₀ columns₀ values₀ at₀ i₀ starts columns values at i = i ≤ n
 
 abbrev μ-loop : tie.MeasureT-loop
 μ-loop number n starts₀ columns₀ values₀ at₀ i₀ starts columns values at i = n - i
@@ -34,15 +32,6 @@ loop-again c = omega arith
 put-start-requires-2 : tie.Need-put-start-requires-2 Inv-loop μ-loop
 put-start-requires-2 c κs = search needs
 
-same-length : tie.Need-same-length Inv-loop μ-loop
-same-length c = omega arith
-
-same-length-2 : tie.Need-same-length-2 Inv-loop μ-loop
-same-length-2 c = omega arith
-
-same-length-3 : tie.Need-same-length-3 Inv-loop μ-loop
-same-length-3 c = omega arith
-
 returns : tie.Need-returns Inv-loop μ-loop
 returns c = search needs
 
@@ -59,7 +48,4 @@ put-graph-spec =
     loop-less
     loop-again
     put-start-requires-2
-    same-length
-    same-length-2
-    same-length-3
     returns)

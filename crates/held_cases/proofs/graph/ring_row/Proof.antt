@@ -1,14 +1,12 @@
 -- `held_cases::graph::ring_row` is safe. Assumes nothing.
-use mathlib.Core.Path.{_≡_}
 use Prim.Native.Nat.{_≤_, _-_}
 use native.Mathlib.Omega.{arith}
 use borrow.Author.Needs.{needs}
-use lib.ListN.{length}
 use Rattle.held_cases.proofs.graph.ring_row.Statement.{statement}
 use Rattle.held_cases.proofs.graph.ring_row.Tie as tie
 
 abbrev Inv-loop : tie.InvT-loop
-Inv-loop number n i first columns₀ values₀ at₀ e₀ columns values at e = (e ≤ 8) × (length columns ≡ length columns₀) × (length values ≡ length values₀)
+Inv-loop number n i first columns₀ values₀ at₀ e₀ columns values at e = e ≤ 8
 
 abbrev μ-loop : tie.MeasureT-loop
 μ-loop number n i first columns₀ values₀ at₀ e₀ columns values at e = 8 - e
@@ -31,12 +29,6 @@ loop-less c = omega arith
 loop-again : tie.Need-loop-again Inv-loop μ-loop
 loop-again c = omega arith
 
-same-length : tie.Need-same-length Inv-loop μ-loop
-same-length c = omega arith
-
-same-length-2 : tie.Need-same-length-2 Inv-loop μ-loop
-same-length-2 c = omega arith
-
 returns : tie.Need-returns Inv-loop μ-loop
 returns c = search needs
 
@@ -52,6 +44,4 @@ ring-row-spec =
     add-e
     loop-less
     loop-again
-    same-length
-    same-length-2
     returns)

@@ -8,19 +8,13 @@ use Rattle.held_cases.proofs.lists.fill_floats.Statement.{statement}
 use Rattle.held_cases.proofs.lists.fill_floats.Tie as tie
 
 abbrev Inv-loop : tie.InvT-loop
-Inv-loop list₀ count x i₀ list i = (i ≤ count) × (length list ≡ length list₀)
+Inv-loop list₀ x i₀ list i = (i ≤ length list₀) × (length list ≡ length list₀)
 
 abbrev μ-loop : tie.MeasureT-loop
-μ-loop list₀ count x i₀ list i = count - i
+μ-loop list₀ x i₀ list i = length list₀ - i
 
 loop-holds : tie.Need-loop-holds Inv-loop μ-loop
 loop-holds c = omega arith
-
-same-length : tie.Need-same-length Inv-loop μ-loop
-same-length c = omega arith
-
-returns : tie.Need-returns Inv-loop μ-loop
-returns c = search needs
 
 mul-list : tie.Need-mul-list Inv-loop μ-loop
 mul-list c = omega arith
@@ -37,11 +31,11 @@ loop-less c = omega arith
 loop-again : tie.Need-loop-again Inv-loop μ-loop
 loop-again c = simp length-set (omega arith)
 
-same-length-2 : tie.Need-same-length-2 Inv-loop μ-loop
-same-length-2 c = omega arith
+same-length : tie.Need-same-length Inv-loop μ-loop
+same-length c = omega arith
 
-returns-2 : tie.Need-returns-2 Inv-loop μ-loop
-returns-2 c = search needs
+returns : tie.Need-returns Inv-loop μ-loop
+returns c = search needs
 
 pub fill-floats-spec : {M : Type 1} → statement M
 fill-floats-spec =
@@ -50,12 +44,10 @@ fill-floats-spec =
     Inv-loop
     μ-loop
     loop-holds
-    same-length
-    returns
     mul-list
     slice-write-list
     add-i
     loop-less
     loop-again
-    same-length-2
-    returns-2)
+    same-length
+    returns)

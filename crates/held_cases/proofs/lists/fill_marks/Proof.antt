@@ -8,19 +8,13 @@ use Rattle.held_cases.proofs.lists.fill_marks.Statement.{statement}
 use Rattle.held_cases.proofs.lists.fill_marks.Tie as tie
 
 abbrev Inv-loop : tie.InvT-loop
-Inv-loop list₀ count x i₀ list i = (i ≤ count) × (length list ≡ length list₀)
+Inv-loop list₀ x i₀ list i = (i ≤ length list₀) × (length list ≡ length list₀)
 
 abbrev μ-loop : tie.MeasureT-loop
-μ-loop list₀ count x i₀ list i = count - i
+μ-loop list₀ x i₀ list i = length list₀ - i
 
 loop-holds : tie.Need-loop-holds Inv-loop μ-loop
 loop-holds c = omega arith
-
-same-length : tie.Need-same-length Inv-loop μ-loop
-same-length c = omega arith
-
-returns : tie.Need-returns Inv-loop μ-loop
-returns c = search needs
 
 slice-write-list : tie.Need-slice-write-list Inv-loop μ-loop
 slice-write-list c = omega arith
@@ -34,11 +28,11 @@ loop-less c = omega arith
 loop-again : tie.Need-loop-again Inv-loop μ-loop
 loop-again c = simp length-set (omega arith)
 
-same-length-2 : tie.Need-same-length-2 Inv-loop μ-loop
-same-length-2 c = omega arith
+same-length : tie.Need-same-length Inv-loop μ-loop
+same-length c = omega arith
 
-returns-2 : tie.Need-returns-2 Inv-loop μ-loop
-returns-2 c = search needs
+returns : tie.Need-returns Inv-loop μ-loop
+returns c = search needs
 
 pub fill-marks-spec : {M : Type 1} → statement M
 fill-marks-spec =
@@ -47,11 +41,9 @@ fill-marks-spec =
     Inv-loop
     μ-loop
     loop-holds
-    same-length
-    returns
     slice-write-list
     add-i
     loop-less
     loop-again
-    same-length-2
-    returns-2)
+    same-length
+    returns)
