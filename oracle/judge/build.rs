@@ -1,5 +1,5 @@
 //! Finds document 000 and writes, into OUT_DIR, a module line that compiles it where it stands and a
-//! recording copy of it. Nothing of document 000 enters the repository.
+//! recording copy of it, with the feature `clock` a timed copy too. Nothing of document 000 enters the repository.
 
 use std::{
     env, fs,
@@ -50,11 +50,65 @@ const INSERTIONS: [Insertion; 6] = [
     },
 ];
 
+/// Where a lap ends: the time since the last one goes to the stage with that number in document 01. The two projections of a column share
+/// numbers, and so do the norms before and after. Two pieces of work have no stage of their own here: v0 goes with the degrees, and the
+/// means are subtracted with their sums, since no line between the two stands once.
+const fn lap(anchor: &'static str, line: &'static str) -> Insertion {
+    Insertion { anchor, side: Side::Before, line }
+}
+
+const LAPS: [Insertion; 19] = [
+    lap("    let d_out = D;", "clock::begin();"),
+    lap(
+        "    // 3. Build (column, scaled weight) pairs sorted by column within each row.",
+        "clock::lap(clock::DEGREES);",
+    ),
+    lap("    // 4. Trivial Perron eigenvector v0 = sqrt(d) / ||sqrt(d)||.", "clock::lap(clock::EDGES);"),
+    lap(
+        "    // 5. Leading nontrivial eigenvectors, flat row-major n x d_out.",
+        "clock::lap(clock::DEGREES);",
+    ),
+    lap("    for round in 0..params.rounds {", "clock::lap(clock::START);"),
+    lap(
+        "        // Distinct refresh seeds per round, offset past the initial block indices.",
+        "clock::lap(clock::FILTER);",
+    ),
+    lap(
+        "            // Norm before the projections, the baseline for collapse detection.",
+        "clock::lap(clock::WRITE);",
+    ),
+    lap("            for _pass in 0..2 {", "clock::lap(clock::NORM);"),
+    lap(
+        "                // Batched dot products: acc[p] against previous column p, acc[c]",
+        "clock::lap(clock::SUBTRACT);",
+    ),
+    lap("                v.par_chunks_mut(k).enumerate().for_each(|(i, row)| {", "clock::lap(clock::DOTS);"),
+    lap("            let norm = column_norm(v, n, k, c);", "clock::lap(clock::SUBTRACT);"),
+    lap("            if norm > norm_pre * collapse {", "clock::lap(clock::NORM);"),
+    lap("        // Rayleigh-Ritz projection: b = V^T M V.", "clock::lap(clock::WRITE);"),
+    lap(
+        "        let mut b = chunked_column_reduce(n, k * k, |range, acc: &mut [T]| {",
+        "clock::lap(clock::PLAIN);",
+    ),
+    lap("        // Symmetrize against rounding, M itself is symmetric.", "clock::lap(clock::PRODUCTS);"),
+    lap(
+        "        if round + 1 < params.rounds {",
+        "clock::lap(clock::RITZ); clock::on_round(order.iter().map(|&c| b[c * k + c]));",
+    ),
+    lap("    // 7. Center each column at zero mean.", "clock::lap(clock::ROTATE);"),
+    lap(
+        "    // 8. Scale each column independently so all have std params.seed_std.",
+        "clock::lap(clock::CENTRE);",
+    ),
+    lap("    v", "clock::lap(clock::SCALE);"),
+];
+
 fn main() {
     let package = PathBuf::from(env::var("CARGO_MANIFEST_DIR").expect("cargo sets this"));
     let out = PathBuf::from(env::var("OUT_DIR").expect("cargo sets this"));
     println!("cargo::rerun-if-env-changed=BHTSNE_SRC");
     println!("cargo::rerun-if-changed=build.rs");
+    let clock = env::var_os("CARGO_FEATURE_CLOCK").is_some();
 
     let document = document_000(&package);
     println!("cargo::rerun-if-changed={}", document.display());
@@ -62,10 +116,17 @@ fn main() {
 
     let text =
         fs::read_to_string(&document).unwrap_or_else(|fault| panic!("{}: {fault}", document.display()));
-    let copy = recording_copy(&text, &package.join("src").join("probe.rs"));
-    let copy_path = out.join("recording.rs");
-    write(&copy_path, &copy);
-    write(&out.join("modules.rs"), &modules(&document, &copy_path));
+    let mut modules = module("spectral", &document);
+    let mut add = |name: &str, child: &str, insertions: &[Insertion]| {
+        let path = out.join(format!("{name}.rs"));
+        write(&path, &copy(&text, insertions, child, &package.join("src").join(format!("{child}.rs"))));
+        modules += &module(name, &path);
+    };
+    add("recording", "probe", &INSERTIONS);
+    if clock {
+        add("timed", "clock", &LAPS);
+    }
+    write(&out.join("modules.rs"), &modules);
 }
 
 /// BHTSNE_SRC is the folder that holds bhtsne/src; by default it stands beside the repository.
@@ -80,14 +141,14 @@ fn document_000(package: &Path) -> PathBuf {
     })
 }
 
-fn modules(document: &Path, copy: &Path) -> String {
-    let module = |name: &str, path: &Path| format!("#[allow(dead_code)]\n#[path = {path:?}]\nmod {name};\n");
-    module("spectral", document) + &module("recording", copy)
+fn module(name: &str, path: &Path) -> String {
+    format!("#[allow(dead_code)]\n#[path = {path:?}]\nmod {name};\n")
 }
 
-fn recording_copy(text: &str, probe: &Path) -> String {
+/// The text with the insertions, and with a child module that they call.
+fn copy(text: &str, insertions: &[Insertion], child: &str, path: &Path) -> String {
     let mut lines: Vec<String> = text.lines().map(str::to_owned).collect();
-    for insertion in &INSERTIONS {
+    for insertion in insertions {
         let at = only_line(&lines, insertion.anchor);
         let place = match insertion.side {
             Side::Before => at,
@@ -95,7 +156,7 @@ fn recording_copy(text: &str, probe: &Path) -> String {
         };
         lines.insert(place, format!("{MARK}{}", insertion.line));
     }
-    lines.push(format!("{MARK}#[path = {probe:?}] pub mod probe;"));
+    lines.push(format!("{MARK}#[path = {path:?}] pub mod {child};"));
     lines.join("\n") + "\n"
 }
 

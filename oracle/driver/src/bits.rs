@@ -9,6 +9,11 @@ pub fn canonical(x: f64) -> u64 {
     if x.is_nan() { NAN_BITS } else { x.to_bits() }
 }
 
+/// Whether two lists have the same bits, a NaN being any NaN.
+pub fn same(a: &[f64], b: &[f64]) -> bool {
+    a.len() == b.len() && a.iter().zip(b).all(|(&x, &y)| canonical(x) == canonical(y))
+}
+
 /// Hex bits joined by commas.
 pub fn join(numbers: &[f64]) -> String {
     let mut text = String::with_capacity(17 * numbers.len());
@@ -63,6 +68,13 @@ mod tests {
     fn every_nan_is_written_alike() {
         let odd = f64::from_bits(0xfff0_0000_0000_0001);
         assert_eq!(join(&[odd, -0.0, 1.0]), "7ff8000000000000,8000000000000000,3ff0000000000000");
+    }
+
+    #[test]
+    fn zeros_of_either_sign_and_lengths_differ() {
+        assert!(same(&[f64::NAN, 1.0], &[-f64::NAN, 1.0]));
+        assert!(!same(&[0.0], &[-0.0]));
+        assert!(!same(&[0.0], &[0.0, 0.0]));
     }
 
     #[test]

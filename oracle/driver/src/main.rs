@@ -16,6 +16,8 @@ mod make;
 mod rng;
 mod runfile;
 mod solve;
+mod stream;
+mod wide;
 
 const HELP: &str = "\
 oracle: answers of document 000 (bhtsne's spectral.rs), compiled unchanged
@@ -32,6 +34,7 @@ oracle: answers of document 000 (bhtsne's spectral.rs), compiled unchanged
   oracle list runs|big|families|matrices
                             what the stored lists hold, one a line
   oracle check [FOLDER]     repeats the stored vectors and compares
+  oracle stream FROM COUNT  graphs and answers as bytes, for oracle/compare
   oracle --help             this text
 
 Floats are 16 lower-case hex digits of their bits, a NaN always 7ff8000000000000.
@@ -60,6 +63,10 @@ fn command(words: &[&str]) -> Result<Outcome, String> {
     if let ["check", rest @ ..] = words {
         let (text, good) = check::check(&vectors(rest)?)?;
         return Ok(Outcome { text, differs: !good });
+    }
+    if let ["stream", rest @ ..] = words {
+        streamed(rest)?;
+        return Ok(Outcome { text: String::new(), differs: false });
     }
     Ok(Outcome { text: text(words)?, differs: false })
 }
@@ -96,9 +103,20 @@ fn lines(words: &[String]) -> String {
 }
 
 fn big_args(words: &[&str]) -> Result<[u64; 5], String> {
-    let number = |word: &&str| word.parse().map_err(|_| format!("{word:?} is not a number below 2^64"));
-    let numbers: Vec<u64> = words.iter().map(number).collect::<Result<_, _>>()?;
-    numbers.try_into().map_err(|_| "big takes N NUMBER D ROUNDS DEGREE".to_owned())
+    numbers(words)?.try_into().map_err(|_| "big takes N NUMBER D ROUNDS DEGREE".to_owned())
+}
+
+fn numbers(words: &[&str]) -> Result<Vec<u64>, String> {
+    words
+        .iter()
+        .map(|word| word.parse().map_err(|_| format!("{word:?} is not a number below 2^64")))
+        .collect()
+}
+
+/// On one thread: the reader at the other end of the pipe has the other core.
+fn streamed(words: &[&str]) -> Result<(), String> {
+    let [from, count] = numbers(words)?.try_into().map_err(|_| "stream takes FROM COUNT".to_owned())?;
+    judge::on_threads(1, || stream::write(from, count, io::stdout()))?
 }
 
 /// The stored vectors stand beside this crate unless another folder is named.

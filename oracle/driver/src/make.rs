@@ -9,12 +9,12 @@ use crate::{
     runfile::{MAX_ENTRIES, MAX_ROWS},
 };
 
-type Rows = Vec<Vec<(u32, f64)>>;
+pub type Rows = Vec<Vec<(u32, f64)>>;
 
 /// Rows whose columns rise and differ.
-type Links = Vec<BTreeMap<u32, f64>>;
+pub type Links = Vec<BTreeMap<u32, f64>>;
 
-type Family = fn(&mut Rng, usize) -> Rows;
+pub type Family = fn(&mut Rng, usize) -> Rows;
 
 const FAMILIES: [(&str, Family); 16] = [
     ("neighbours", |rng, n| sorted(neighbours(rng, n))),
@@ -64,7 +64,7 @@ pub fn make(number: u64) -> Request {
     request(1 + place(number / kinds, widths), rounds, degree, seed_std, &rows)
 }
 
-fn request(d: usize, rounds: usize, degree: usize, seed_std: f64, rows: &Rows) -> Request {
+pub fn request(d: usize, rounds: usize, degree: usize, seed_std: f64, rows: &Rows) -> Request {
     let mut starts = vec![0];
     for row in rows {
         starts.push(starts[starts.len() - 1] + row.len());
@@ -81,7 +81,7 @@ fn request(d: usize, rounds: usize, degree: usize, seed_std: f64, rows: &Rows) -
     }
 }
 
-fn seed_std(rng: &mut Rng) -> f64 {
+pub fn seed_std(rng: &mut Rng) -> f64 {
     match rng.below(20) {
         0..=9 => 1e-4,
         10..=12 => 1.0,
@@ -92,17 +92,17 @@ fn seed_std(rng: &mut Rng) -> f64 {
     }
 }
 
-fn no_links(n: usize) -> Links {
+pub fn no_links(n: usize) -> Links {
     vec![BTreeMap::new(); n]
 }
 
 /// Both directions, so that the graph stays symmetric.
-fn link(links: &mut Links, i: usize, j: usize, value: f64) {
+pub fn link(links: &mut Links, i: usize, j: usize, value: f64) {
     links[i].insert(j as u32, value);
     links[j].insert(i as u32, value);
 }
 
-fn sorted(links: Links) -> Rows {
+pub fn sorted(links: Links) -> Rows {
     links.into_iter().map(|row| row.into_iter().collect()).collect()
 }
 
@@ -133,7 +133,7 @@ fn nearest(points: &[(f64, f64)], i: usize) -> Vec<(f64, usize)> {
 }
 
 /// Each row with the 1 to 3 rows after it round the ring; one row in two also with any row, itself included.
-fn ring(rng: &mut Rng, n: usize, value: fn(&mut Rng) -> f64) -> Links {
+pub fn ring(rng: &mut Rng, n: usize, value: fn(&mut Rng) -> f64) -> Links {
     let reach = rng.between(1, 3);
     let mut links = no_links(n);
     for i in 0..n {
@@ -154,7 +154,7 @@ fn ring(rng: &mut Rng, n: usize, value: fn(&mut Rng) -> f64) -> Links {
 }
 
 /// 2 to 12 components, each a path with some more links inside.
-fn blocks(rng: &mut Rng, n: usize) -> Links {
+pub fn blocks(rng: &mut Rng, n: usize) -> Links {
     let parts = rng.between(2, 12);
     let part = |i: usize| i * parts / n;
     let mut links = no_links(n);
@@ -173,7 +173,7 @@ fn blocks(rng: &mut Rng, n: usize) -> Links {
 }
 
 /// A ring from which a quarter of the rows is cut out; one cut row in three keeps minus zeros in its place.
-fn empty(rng: &mut Rng, n: usize) -> Rows {
+pub fn empty(rng: &mut Rng, n: usize) -> Rows {
     let mut links = ring(rng, n, Rng::weight);
     let cut: Vec<bool> = (0..n).map(|i| i == n / 2 || rng.once_in(4)).collect();
     for (i, row) in links.iter_mut().enumerate() {
@@ -199,23 +199,23 @@ fn scaled(mut links: Links, mut scale: impl FnMut() -> f64) -> Rows {
 }
 
 /// One scale for all, so that symmetry stays; at the largest some row sums overflow.
-fn huge(rng: &mut Rng, n: usize) -> Rows {
+pub fn huge(rng: &mut Rng, n: usize) -> Rows {
     let scale = rng.pick(&[1e300, 1e305, 1e307, f64::MAX / 2.0]);
     scaled(ring(rng, n, Rng::weight), || scale)
 }
 
 /// Around the floor of the root (degree 1e-24), far below it, and subnormal.
-fn tiny(rng: &mut Rng, n: usize) -> Rows {
+pub fn tiny(rng: &mut Rng, n: usize) -> Rows {
     let scale = rng.pick(&[1e-23, 1e-24, 1e-25, 1e-300, 1e-308, 4e-323]);
     scaled(ring(rng, n, Rng::weight), || scale)
 }
 
-fn any_scale(rng: &mut Rng) -> f64 {
+pub fn any_scale(rng: &mut Rng) -> f64 {
     let size = rng.weight() * rng.power_of_two(-1074, 1023);
     if rng.once_in(8) { -size } else { size }
 }
 
-fn often_minus_zero(rng: &mut Rng) -> f64 {
+pub fn often_minus_zero(rng: &mut Rng) -> f64 {
     if rng.once_in(3) { -0.0 } else { rng.weight() }
 }
 
@@ -241,7 +241,7 @@ fn twice(rng: &mut Rng, n: usize) -> Rows {
     rows
 }
 
-fn free_rows(rng: &mut Rng, n: usize, most: usize, value: fn(&mut Rng) -> f64) -> Rows {
+pub fn free_rows(rng: &mut Rng, n: usize, most: usize, value: fn(&mut Rng) -> f64) -> Rows {
     (0..n)
         .map(|_| {
             let len = rng.between(1, most);
@@ -251,7 +251,7 @@ fn free_rows(rng: &mut Rng, n: usize, most: usize, value: fn(&mut Rng) -> f64) -
 }
 
 /// Rows of up to 12 entries, columns differing, no mirror entries looked for.
-fn asymmetric(rng: &mut Rng, n: usize) -> Rows {
+pub fn asymmetric(rng: &mut Rng, n: usize) -> Rows {
     let rows = free_rows(rng, n, 12, Rng::weight);
     sorted(rows.into_iter().map(|row| row.into_iter().collect()).collect())
 }
@@ -290,7 +290,7 @@ fn small(rng: &mut Rng, n: usize) -> Rows {
         .collect()
 }
 
-fn small_value(rng: &mut Rng) -> f64 {
+pub fn small_value(rng: &mut Rng) -> f64 {
     match rng.below(6) {
         0 => 0.0,
         1 => -0.0,
@@ -300,7 +300,7 @@ fn small_value(rng: &mut Rng) -> f64 {
 }
 
 /// Every pair, the diagonal too.
-fn dense(rng: &mut Rng, n: usize) -> Links {
+pub fn dense(rng: &mut Rng, n: usize) -> Links {
     let mut links = no_links(n);
     for i in 0..n {
         for j in 0..=i {
@@ -313,7 +313,7 @@ fn dense(rng: &mut Rng, n: usize) -> Links {
 
 /// A ring in which some rows have a degree just above the floor while others name their columns with huge values:
 /// weights, then sums, then Ritz values leave the finite numbers.
-fn overflow(rng: &mut Rng, n: usize) -> Rows {
+pub fn overflow(rng: &mut Rng, n: usize) -> Rows {
     let mut links = ring(rng, n, Rng::weight);
     let weak: Vec<bool> = (0..n).map(|i| i == 0 || rng.once_in(5)).collect();
     let strong = rng.pick(&[1e150, 1e200, 1e290, 1e300]);

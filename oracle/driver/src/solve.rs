@@ -41,7 +41,7 @@ pub struct Answer {
 pub fn solve(request: &Request) -> Result<Answer, String> {
     let seed = judge::seed(request)?;
     let (copied, record) = judge::seed_recorded(request)?;
-    if bits::join(&seed) != bits::join(&copied) {
+    if !bits::same(&seed, &copied) {
         return Err("the recording copy gives other bits than document 000".to_owned());
     }
     Ok(Answer {

@@ -42,6 +42,15 @@ fn conditions_come_in_their_order() {
 }
 
 #[test]
+fn a_stream_names_its_graphs_and_ends() {
+    let out = oracle(&["stream", "3", "2"], b"");
+    assert!(out.status.success());
+    let head: Vec<u8> = [*b"TCSTREAM", 3u64.to_le_bytes(), 2u64.to_le_bytes(), *b"TCGRAPH1"].concat();
+    assert!(out.stdout.starts_with(&head));
+    assert!(out.stdout.ends_with(&[*b"TCENDING", 2u64.to_le_bytes()].concat()));
+}
+
+#[test]
 fn bad_run_files_are_refused_with_a_message() {
     let good = printed(&["make", "1"], b"");
     let bad: [Vec<u8>; 6] = [
@@ -65,7 +74,7 @@ fn bad_run_files_are_refused_with_a_message() {
 
 #[test]
 fn bad_commands_are_refused_with_a_message() {
-    let bad: [&[&str]; 9] = [
+    let bad: [&[&str]; 12] = [
         &[],
         &["walk"],
         &["run", "file"],
@@ -75,6 +84,9 @@ fn bad_commands_are_refused_with_a_message() {
         &["big", "8", "1", "1", "1", "1"],
         &["big", "4096", "1", "x", "1", "1"],
         &["check", "no-such-folder"],
+        &["stream"],
+        &["stream", "0"],
+        &["stream", "0", "x"],
     ];
     for args in bad {
         let out = oracle(args, b"");

@@ -1,17 +1,23 @@
 //! The judge: document 000 as it stands, and a recording copy of it.
 //!
 //! Answers come from [`seed`], which is the unchanged text. [`seed_recorded`] runs the copy, for what the
-//! unchanged text does not show.
+//! unchanged text does not show. With the feature `clock` there is a third copy, which tells how long each stage took.
 
 include!(concat!(env!("OUT_DIR"), "/modules.rs"));
 
 pub use recording::probe::{Record, Round, kernels};
+#[cfg(feature = "clock")]
+pub use timed::clock;
 
 /// Document 000 as compiled here.
 pub const DOCUMENT_000: &str = include_str!(env!("DOCUMENT_000"));
 
 /// The recording copy as compiled here.
 pub const RECORDING_COPY: &str = include_str!(concat!(env!("OUT_DIR"), "/recording.rs"));
+
+/// The timed copy as compiled here.
+#[cfg(feature = "clock")]
+pub const TIMED_COPY: &str = include_str!(concat!(env!("OUT_DIR"), "/timed.rs"));
 
 pub const MAX_D: usize = 7;
 
@@ -90,9 +96,6 @@ macro_rules! by_dimension {
     ($module:ident, $request:expr) => {{
         use $module::{SpectralParams, spectral_embedding};
         let request: &Request = $request;
-        if let Some(fault) = request.fault() {
-            return Err(fault);
-        }
         let params =
             SpectralParams::new().rounds(request.rounds).degree(request.degree).seed_std(request.seed_std);
         let (starts, columns, values) = (&request.starts, &request.columns, &request.values);
@@ -109,9 +112,31 @@ macro_rules! by_dimension {
     }};
 }
 
+fn sound(request: &Request) -> Result<&Request, String> {
+    request.fault().map_or(Ok(request), Err)
+}
+
 /// The seed by document 000's unchanged text, row after row.
 pub fn seed(request: &Request) -> Result<Vec<f64>, String> {
+    by_dimension!(spectral, sound(request)?)
+}
+
+/// The same of a request that is known to have no fault, so that a clock around it measures document 000 and nothing else.
+#[cfg(feature = "clock")]
+pub fn seed_alone(request: &Request) -> Result<Vec<f64>, String> {
     by_dimension!(spectral, request)
+}
+
+/// The seed of such a request by the timed copy, and its laps.
+#[cfg(feature = "clock")]
+pub fn seed_timed(request: &Request) -> Result<(Vec<f64>, clock::Laps), String> {
+    let seed = timed_seed(request)?;
+    Ok((seed, clock::take()))
+}
+
+#[cfg(feature = "clock")]
+fn timed_seed(request: &Request) -> Result<Vec<f64>, String> {
+    by_dimension!(timed, request)
 }
 
 /// The seed by the recording copy, and what it recorded.
@@ -122,7 +147,7 @@ pub fn seed_recorded(request: &Request) -> Result<(Vec<f64>, Record), String> {
 }
 
 fn recorded_seed(request: &Request) -> Result<Vec<f64>, String> {
-    by_dimension!(recording, request)
+    by_dimension!(recording, sound(request)?)
 }
 
 /// Runs `work` on a pool of that many threads, so that a test can show that the number does not matter.
@@ -138,12 +163,21 @@ pub fn on_threads<R: Send>(threads: usize, work: impl FnOnce() -> R + Send) -> R
 mod tests {
     use super::*;
 
+    fn without_inserted_lines_it_is_document_000(copy: &str, inserted: usize) {
+        let kept: Vec<&str> = copy.lines().filter(|line| !line.starts_with("/*probe*/ ")).collect();
+        assert_eq!(copy.lines().count() - kept.len(), inserted);
+        assert_eq!(kept, DOCUMENT_000.lines().collect::<Vec<_>>());
+    }
+
     #[test]
     fn copy_without_its_inserted_lines_is_document_000() {
-        let kept: Vec<&str> = RECORDING_COPY.lines().filter(|line| !line.starts_with("/*probe*/ ")).collect();
-        let inserted = RECORDING_COPY.lines().count() - kept.len();
-        assert_eq!(inserted, 7);
-        assert_eq!(kept, DOCUMENT_000.lines().collect::<Vec<_>>());
+        without_inserted_lines_it_is_document_000(RECORDING_COPY, 7);
+    }
+
+    #[cfg(feature = "clock")]
+    #[test]
+    fn timed_copy_without_its_inserted_lines_is_document_000() {
+        without_inserted_lines_it_is_document_000(TIMED_COPY, 20);
     }
 
     /// Document 01: library versions begin a float sum with zeros of different sign. The README states this one's.

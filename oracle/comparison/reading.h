@@ -1,0 +1,32 @@
+/* reading.h: document 01's table of refusals, read a second time. The numbers of the stages and the names of the fields are those of
+ * docs/STATE.md. It shares no code with the library, so that an error would have to be made twice. */
+#ifndef READING_H
+#define READING_H
+
+#include "calls.h"
+
+/* number and place that the call must answer */
+threshcinch_verdict reading(const call *c);
+
+/* whether every field of a state is in its range */
+int reading_state(const threshcinch_state *s);
+
+/* stages 1 to 19 */
+int reading_is_open(const threshcinch_state *s);
+
+size_t reading_chunks(size_t rows);
+
+/* "Lent memory, in order 0 to 9", behind the lengths of the graph's lists */
+void reading_sizes(size_t need[LISTS], size_t dims, size_t rows, size_t entries);
+
+/* the state that a refused opening answers */
+threshcinch_state reading_empty_state(void);
+
+/* whether a setter takes the number */
+int reading_takes_whole(uint64_t rounds_or_degree);
+int reading_takes_seed_std(double x);
+
+/* what sizes are refused with */
+threshcinch_verdict reading_sizes_verdict(uint64_t d, size_t rows, size_t entries);
+
+#endif

@@ -1,0 +1,130 @@
+#define _GNU_SOURCE /* pipe2 */
+#include "program.h"
+
+#include <fcntl.h>
+#include <signal.h>
+#include <spawn.h>
+#include <stdio.h>
+#include <string.h>
+#include <sys/socket.h>
+#include <sys/wait.h>
+#include <unistd.h>
+
+enum { MOST_PIECES = 24, SEEN_ROOM = 2 * LEAST_ROOM };
+
+extern char **environ;
+
+static volatile sig_atomic_t running;
+
+void program_stop(void) {
+  if (running) kill((pid_t)running, SIGKILL);
+}
+
+/* ---- standard input: the whole file lies ready before the program begins, so that nothing waits for anything */
+
+static void send_all(int to, const uint8_t *bytes, size_t length) {
+  size_t sent = 0;
+  while (sent < length) {
+    ssize_t got = write(to, bytes + sent, length - sent);
+    if (got <= 0) fail("a pipe takes fewer than %zu bytes", length);
+    sent += (size_t)got;
+  }
+}
+
+static int input_whole(const text *file) {
+  int ends[2];
+  if (pipe2(ends, O_CLOEXEC)) fail("no pipe");
+  send_all(ends[1], file->bytes, file->length);
+  close(ends[1]);
+  return ends[0];
+}
+
+/* On this kind of socket one call reads what one call wrote. An empty piece would be the end. */
+static void send_pieces(int to, const text *file, random_source *r) {
+  size_t sent = 0;
+  for (int left = 1 + (int)random_below(r, MOST_PIECES); sent < file->length; left--) {
+    size_t rest = file->length - sent, piece = left <= 1 ? rest : 1 + random_below(r, rest);
+    if (left > 1 && once_in(r, 2)) piece = 1 + random_below(r, rest < 16 ? rest : 16);
+    if (send(to, file->bytes + sent, piece, MSG_DONTWAIT) != (ssize_t)piece) fail("a socket takes fewer than %zu bytes", file->length);
+    sent += piece;
+  }
+}
+
+static int input_pieces(const text *file, random_source *r) {
+  int ends[2];
+  if (socketpair(AF_UNIX, SOCK_SEQPACKET | SOCK_CLOEXEC, 0, ends)) fail("no socket");
+  send_pieces(ends[1], file, r);
+  close(ends[1]);
+  return ends[0];
+}
+
+/* ---- what the program says goes to files without a name */
+
+typedef struct {
+  int fd;
+  size_t length;
+  uint8_t bytes[SEEN_ROOM];
+} seen;
+
+static void seen_clear(seen *s) {
+  if (s->fd == 0) {
+    FILE *new = tmpfile();
+    s->fd = new ? fcntl(fileno(new), F_DUPFD_CLOEXEC, 3) : -1;
+    if (new) fclose(new);
+  }
+  if (s->fd < 0 || ftruncate(s->fd, 0) || lseek(s->fd, 0, SEEK_SET)) fail("no file for what the program says");
+}
+
+static void seen_take(seen *s) {
+  ssize_t got = pread(s->fd, s->bytes, SEEN_ROOM, 0);
+  if (got < 0) fail("what the program said cannot be read");
+  s->length = (size_t)got;
+}
+
+/* ---- the program */
+
+static int run(const char *path, int in, int out, int error) {
+  posix_spawn_file_actions_t actions;
+  char *const words[] = {(char *)(uintptr_t)path, NULL};
+  pid_t pid;
+  int status;
+  posix_spawn_file_actions_init(&actions);
+  posix_spawn_file_actions_adddup2(&actions, in, 0);
+  posix_spawn_file_actions_adddup2(&actions, out, 1);
+  posix_spawn_file_actions_adddup2(&actions, error, 2);
+  int failure = posix_spawn(&pid, path, &actions, NULL, words, environ);
+  posix_spawn_file_actions_destroy(&actions);
+  if (failure) fail("%s cannot be run: %s", path, strerror(failure));
+  running = pid;
+  if (waitpid(pid, &status, 0) != pid) fail("%s was lost", path);
+  running = 0;
+  return status;
+}
+
+static void break_some(seen *out, seen *error, int *status) {
+  if (breaks("program-byte")) out->bytes[out->length - 2] ^= 1;
+  if (breaks("program-shorter")) out->length--;
+  if (breaks("program-longer")) out->length++;
+  if (breaks("program-status")) *status = 1 << 8;
+  if (breaks("program-signal")) *status = SIGSEGV;
+  if (breaks("program-error")) error->length = 1;
+}
+
+void check_program(const char *path, const text *file, const answer *due, enum way way, random_source *r) {
+  static seen out, error;
+  int in = way == WHOLE ? input_whole(file) : input_pieces(file, r);
+  seen_clear(&out);
+  seen_clear(&error);
+  int status = run(path, in, out.fd, error.fd);
+  close(in);
+  seen_take(&out);
+  seen_take(&error);
+  break_some(&out, &error, &status);
+  if (WIFSIGNALED(status))
+    differ("program crash", "signal %d", WTERMSIG(status));
+  else if (status)
+    differ("program status", "it is %d", WEXITSTATUS(status));
+  if (error.length) differ("program error", "it says %zu bytes: %.60s", error.length, error.bytes);
+  if (out.length != due->length || memcmp(out.bytes, due->text, out.length))
+    differ("program", "%zu bytes, not text_answer's %zu", out.length, due->length);
+}

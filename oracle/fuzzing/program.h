@@ -1,0 +1,14 @@
+/* program.h: a file through seedrun itself. */
+#ifndef PROGRAM_H
+#define PROGRAM_H
+
+#include "checks.h"
+#include "tally.h"
+
+/* Gives the program the file on its standard input. Its output must be the answer's text, its status 0, and nothing on standard error. */
+void check_program(const char *path, const text *file, const answer *due, enum way way, random_source *r);
+
+/* Ends the program that runs, if one does; for a signal handler. */
+void program_stop(void);
+
+#endif
