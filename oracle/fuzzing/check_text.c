@@ -8,9 +8,8 @@
 
 enum { MOST_ROWS = 64, MOST_DIMS = 7, MOST_WIDTH = 15, ROOM_MORE = 64, TEXT_FAULT = 17 };
 
-/* A run of so many steps, by run_cost, takes about a tenth of a millisecond; of the longer ones one in eight is asked for. */
-static const uint64_t CHEAP = 1000000, DEAR = 10000000;
-static const uint64_t DEAR_SHARE = 8;
+/* Steps are run_cost's; a million took about two milliseconds. Up to CHEAP every run is asked for, up to DEAR one in DEAR_SHARE. */
+static const uint64_t CHEAP = 1000000, DEAR = 10000000, DEAR_SHARE = 8;
 
 /* ---- the library's one call on the numbers of a run file */
 

@@ -10,7 +10,7 @@
 #include <sys/wait.h>
 #include <unistd.h>
 
-enum { MOST_PIECES = 24, SEEN_ROOM = 2 * LEAST_ROOM };
+enum { VARIED_PIECES = 24, SHORT_PIECE = 16, LONGEST_PIECE = 1024, SOCKET_ROOM = 200000, SEEN_ROOM = 2 * LEAST_ROOM };
 
 extern char **environ;
 
@@ -39,20 +39,27 @@ static int input_whole(const text *file) {
   return ends[0];
 }
 
-/* On this kind of socket one call reads what one call wrote. An empty piece would be the end. */
+/* On this kind of socket one call reads what one call wrote, and loses what it has no room for: so the pieces are smaller than any
+ * program's room. An empty one would be the end. */
+static size_t any_piece(size_t rest, int is_short, random_source *r) {
+  size_t most = is_short ? SHORT_PIECE : LONGEST_PIECE;
+  return 1 + random_below(r, rest < most ? rest : most);
+}
+
 static void send_pieces(int to, const text *file, random_source *r) {
   size_t sent = 0;
-  for (int left = 1 + (int)random_below(r, MOST_PIECES); sent < file->length; left--) {
-    size_t rest = file->length - sent, piece = left <= 1 ? rest : 1 + random_below(r, rest);
-    if (left > 1 && once_in(r, 2)) piece = 1 + random_below(r, rest < 16 ? rest : 16);
+  for (int i = 0; sent < file->length; i++) {
+    size_t rest = file->length - sent, piece = rest < LONGEST_PIECE ? rest : LONGEST_PIECE;
+    if (i < VARIED_PIECES) piece = any_piece(rest, once_in(r, 2), r);
     if (send(to, file->bytes + sent, piece, MSG_DONTWAIT) != (ssize_t)piece) fail("a socket takes fewer than %zu bytes", file->length);
     sent += piece;
   }
 }
 
 static int input_pieces(const text *file, random_source *r) {
-  int ends[2];
+  int ends[2], room = SOCKET_ROOM;
   if (socketpair(AF_UNIX, SOCK_SEQPACKET | SOCK_CLOEXEC, 0, ends)) fail("no socket");
+  setsockopt(ends[1], SOL_SOCKET, SO_SNDBUF, &room, sizeof room);
   send_pieces(ends[1], file, r);
   close(ends[1]);
   return ends[0];

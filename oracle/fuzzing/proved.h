@@ -1,4 +1,4 @@
-/* proved.h: the two proved functions that libtext.a exports, as C sees them. */
+/* proved.h: the proved functions of crates reading and text, as C sees them. */
 #ifndef PROVED_H
 #define PROVED_H
 
