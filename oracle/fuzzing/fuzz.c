@@ -15,6 +15,7 @@
 #include <stdio.h>
 #include <stdlib.h>
 #include <string.h>
+#include <sys/time.h>
 #include <unistd.h>
 
 #include "bases.h"
@@ -24,7 +25,7 @@
 #include "program.h"
 #include "tally.h"
 
-enum { TOLD_EVERY = 100000, SCRIPT_SHARE = 20, LONGEST_SECONDS = 60, SIGNAL_STACK = 1 << 17 };
+enum { TOLD_EVERY = 100000, SCRIPT_SHARE = 20, LONGEST_CALL = 20, SIGNAL_STACK = 1 << 17 };
 
 static const char *const breakages[] = {"right",
                                         "right-byte",
@@ -83,18 +84,26 @@ typedef struct {
 /* The proved code calls nothing of C's, so that printing is safe when it is what was interrupted. */
 static void on_signal(int signal) {
   program_stop();
-  differ(signal == SIGALRM ? "endless" : "crash", "signal %d", signal);
+  if (signal == SIGALRM)
+    fail("file %llu: a program did not end in %d seconds, and may only have waited", (unsigned long long)told.number, LONGEST_WAIT);
+  differ(signal == SIGVTALRM ? "endless" : "crash", "signal %d", signal);
   fflush(stdout);
   _exit(1);
 }
 
 static void watch_signals(void) {
-  static const int signals[] = {SIGSEGV, SIGBUS, SIGILL, SIGFPE, SIGABRT, SIGTRAP, SIGALRM};
+  static const int signals[] = {SIGSEGV, SIGBUS, SIGILL, SIGFPE, SIGABRT, SIGTRAP, SIGVTALRM, SIGALRM};
   static uint8_t stack[SIGNAL_STACK];
   stack_t other = {.ss_sp = stack, .ss_size = sizeof stack};
   struct sigaction action = {.sa_handler = on_signal, .sa_flags = SA_ONSTACK};
   if (sigaltstack(&other, NULL)) fail("no stack for signals");
   for (size_t i = 0; i < sizeof signals / sizeof *signals; i++) sigaction(signals[i], &action, NULL);
+}
+
+/* Time of this process alone: on a busy machine a call may wait for minutes, and what never ends computes. 0 is no limit. */
+static void limit_seconds(time_t seconds) {
+  struct itimerval limit = {{0, 0}, {seconds, 0}};
+  if (setitimer(ITIMER_VIRTUAL, &limit, NULL)) fail("no timer");
 }
 
 /* ---- a file */
@@ -142,7 +151,7 @@ static void check_file(const options *o, uint64_t i, const guarded *input) {
   grammar_read(&run, bytes, file.length);
   count_file(&file, &run);
   if (breaks("crash")) raise(SIGSEGV);
-  if (breaks("endless")) raise(SIGALRM);
+  if (breaks("endless")) raise(SIGVTALRM);
   check_reading(&run, bytes, file.length);
   answer a = check_text(&run, bytes, file.length, &r);
   if (memcmp(bytes, file.bytes, file.length)) differ("input", "the bytes of the file were changed");
@@ -153,12 +162,12 @@ static void check_file(const options *o, uint64_t i, const guarded *input) {
 static void check_files(const options *o) {
   guarded input = guarded_new(TEXT_ROOM);
   for (uint64_t i = 0; i < o->count && !(o->ends_at_first && told.differences); i++) {
-    alarm(LONGEST_SECONDS);
+    limit_seconds(LONGEST_CALL);
     check_file(o, i, &input);
     if ((i + 1) % TOLD_EVERY == 0)
       fprintf(stderr, "%llu files, %llu differences\n", (unsigned long long)(i + 1), (unsigned long long)told.differences);
   }
-  alarm(0);
+  limit_seconds(0);
 }
 
 /* ---- the command */

@@ -103,7 +103,9 @@ static int run(const char *path, int in, int out, int error) {
   posix_spawn_file_actions_destroy(&actions);
   if (failure) fail("%s cannot be run: %s", path, strerror(failure));
   running = pid;
+  alarm(LONGEST_WAIT);
   if (waitpid(pid, &status, 0) != pid) fail("%s was lost", path);
+  alarm(0);
   running = 0;
   return status;
 }

@@ -5,6 +5,9 @@
 #include "checks.h"
 #include "tally.h"
 
+/* seconds that a program is waited for; SIGALRM comes then */
+enum { LONGEST_WAIT = 600 };
+
 /* Gives the program the file on its standard input. Its output must be the answer's text, its status 0, and nothing on standard error. */
 void check_program(const char *path, const text *file, const answer *due, enum way way, random_source *r);
 
