@@ -2,7 +2,7 @@
 use mathlib.Core.Path.{_≡_, _∙_}
 use mathlib.Core.List.{List}
 use Prim.Native.Nat.{ℕ, _+_, _-_, _*_, _≤_, _<_}
-use native.Mathlib.Nat.{mul-assoc, mul-le-mul-right, one-mul}
+use native.Mathlib.Nat.{mul-assoc}
 use native.Mathlib.Omega.{arith}
 use lib.Ieee.{Float}
 use Rattle.definition.specs.Arith.{ieee64}
@@ -20,15 +20,9 @@ use Rattle.machine.specs.Work.{ownPlace, ownPartial}
 use Rattle.machine.proofs.Own.{rows-where}
 use Rattle.sums.specs.Accumulators.{withPartial}
 
--- ---- widths: a width is no more than its square, which is at most 225
+-- ---- the width of what was asked
 pub asked-width : {a : Asked} → AskedReady a → Width (wide a)
 asked-width r = record { least = omega (arith, r .dims-least); most = omega (arith, r .dims-most) }
-
-pub square-least : (k : ℕ) → 1 ≤ k → k ≤ k * k
-square-least k p = omega (arith, mul-le-mul-right {m = 1} {n = k} k p, one-mul k)
-
-pub square-most : (k : ℕ) → k ≤ 15 → k * k ≤ 225
-square-most k p = omega (arith, mul-le-mul-right {m = k} {n = 15} k p)
 
 -- chunk h's partial ends within the partials of c chunks
 pub partial-end : (h k c : ℕ) {m : ℕ} → h < c → c * k * k ≤ m → h * (k * k) + k * k ≤ m

@@ -50,7 +50,7 @@ fn after_filter(asked: Asked, progress: Progress) -> Progress
 pub fn close_filter(state: State) -> State
     requires { ⌜ StateReady ieee64 (stateIn state) ⌝ }
     ensures { λ r. ⌜ stateIn r ≡ withCounts ieee64
-        (afterFilter ieee64 (askedIn (state .asked)) (progressIn (state .progress))) (passCounted ieee64 (countsIn (state .counts))) (stateIn state) ⌝ }
+        (afterFilter ieee64 (askedIn (state .asked)) (progressIn (state .progress))) (passCounted (countsIn (state .counts))) (stateIn state) ⌝ }
 {
     let asked = state.asked;
     let p = state.progress;
@@ -67,7 +67,7 @@ pub fn close_filter(state: State) -> State
 pub fn close_plain(state: State) -> State
     requires { ⌜ StateReady ieee64 (stateIn state) ⌝ }
     ensures { λ r. ⌜ stateIn r ≡ withCounts ieee64
-        (movedTo ieee64 14 (progressIn (state .progress))) (passCounted ieee64 (countsIn (state .counts))) (stateIn state) ⌝ }
+        (movedTo ieee64 14 (progressIn (state .progress))) (passCounted (countsIn (state .counts))) (stateIn state) ⌝ }
 {
     let counts = state.counts;
     let all_passes = counts.passes + 1;

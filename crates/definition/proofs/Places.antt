@@ -1,7 +1,7 @@
 -- Laws of places in a block: a place below its size, the row and the column of a place. Assumes nothing.
 use mathlib.Core.Path.{_≡_, refl, ap, _∙_}
 use Prim.Native.Nat.{ℕ, zero, suc, _+_, _-_, _*_, _/_, _%_, _≤_, _<_}
-use native.Mathlib.Nat.{suc-mul, mul-le-mul-right, mul-add-div-right, mul-add-mod-self-right, div-eq-of-lt, mod-eq-of-lt}
+use native.Mathlib.Nat.{suc-mul, one-mul, mul-le-mul-right, mul-add-div-right, mul-add-mod-self-right, div-eq-of-lt, mod-eq-of-lt}
 use native.Mathlib.Numerals.{add-one}
 use native.Mathlib.Omega.{arith}
 use lib.ListN.{getD}
@@ -26,6 +26,14 @@ row-of i k d q = mul-add-div-right (omega arith) i d ∙ ap (λ (x : ℕ). i + x
 
 pub column-of : (i k d : ℕ) → d < k → (i * k + d) % k ≡ d
 column-of i k d q = mul-add-mod-self-right i k d ∙ mod-eq-of-lt q
+
+-- ---- a width and its square: the largest matrix is 15 by 15
+
+pub square-least : (k : ℕ) → 1 ≤ k → k ≤ k * k
+square-least k p = omega (arith, mul-le-mul-right {m = 1} {n = k} k p, one-mul k)
+
+pub square-most : (k : ℕ) → k ≤ 15 → k * k ≤ 225
+square-most k p = omega (arith, mul-le-mul-right {m = k} {n = 15} k p)
 
 -- ---- the block's own places
 

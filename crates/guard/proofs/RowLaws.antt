@@ -36,17 +36,17 @@ module _ (entries : ℕ) (starts : List ℕ) (i : ℕ) where
   abbrev passes-end : Bool
   passes-end = ltb entries (getD starts (i + 1) 0)
 
-  pub fault-falls : getD starts (i + 1) 0 < getD starts i 0 → startFault ieee64 entries starts i ≡ true
+  pub fault-falls : getD starts (i + 1) 0 < getD starts i 0 → startFault entries starts i ≡ true
   fault-falls h = ap (λ (b : Bool). b || passes-end) (lt-ltb (getD starts (i + 1) 0) (getD starts i 0) h)
 
-  pub fault-past : entries < getD starts (i + 1) 0 → startFault ieee64 entries starts i ≡ true
+  pub fault-past : entries < getD starts (i + 1) 0 → startFault entries starts i ≡ true
   fault-past h = or-either falls passes-end (lt-ltb entries (getD starts (i + 1) 0) h)
 
-  pub fault-none : getD starts i 0 ≤ getD starts (i + 1) 0 → getD starts (i + 1) 0 ≤ entries → startFault ieee64 entries starts i ≡ false
+  pub fault-none : getD starts i 0 ≤ getD starts (i + 1) 0 → getD starts (i + 1) 0 ≤ entries → startFault entries starts i ≡ false
   fault-none h g =
       ap₂ (λ (a b : Bool). a || b) (le-ltb (getD starts (i + 1) 0) (getD starts i 0) h) (le-ltb entries (getD starts (i + 1) 0) g)
 
-  none-fault : startFault ieee64 entries starts i ≡ false → (getD starts i 0 ≤ getD starts (i + 1) 0) × (getD starts (i + 1) 0 ≤ entries)
+  none-fault : startFault entries starts i ≡ false → (getD starts i 0 ≤ getD starts (i + 1) 0) × (getD starts (i + 1) 0 ≤ entries)
   none-fault h =
       let g = or-false falls passes-end h in
       (ltb-false (getD starts (i + 1) 0) (getD starts i 0) (g .0), ltb-false entries (getD starts (i + 1) 0) (g .1))
@@ -61,13 +61,13 @@ module _ (starts : List ℕ) (n h m : ℕ) (s : Starts starts (firstRow n h) (fi
       (o, s .enough, starts-up starts (firstRow n h) (firstRow n (h + 1)) m s (firstRow n h) (firstRow n (h + 1)) (omega arith) o (omega arith), s .within (firstRow n (h + 1)) o (omega arith))
 
 -- sound starts, of a chunk that has rows
-module _ (a : Asked) (starts : List ℕ) (h : ℕ) (o : firstRow (a .rows) h < firstRow (a .rows) (h + 1)) (e : startsSound ieee64 a starts h ≡ true) where
+module _ (a : Asked) (starts : List ℕ) (h : ℕ) (o : firstRow (a .rows) h < firstRow (a .rows) (h + 1)) (e : startsSound a starts h ≡ true) where
   sound-row : (i : ℕ) → firstRow (a .rows) h ≤ i → i < firstRow (a .rows) (h + 1)
       → (getD starts i 0 ≤ getD starts (i + 1) 0) × (getD starts (i + 1) 0 ≤ a .entries)
   unfolding startsSound
   sound-row i p q =
       none-fault (a .entries) starts i
-      (none-all (startFault ieee64 (a .entries) starts) (firstRow (a .rows) h) (firstRow (a .rows) (h + 1)) i (omega arith) e p q)
+      (none-all (startFault (a .entries) starts) (firstRow (a .rows) h) (firstRow (a .rows) (h + 1)) i (omega arith) e p q)
 
   last-row : (i end : ℕ) → end ≡ firstRow (a .rows) (h + 1) → i ≡ end - 1 + 1 → getD starts i 0 ≤ a .entries
   last-row i end r s = rw s (sound-row (end - 1) (omega arith) (omega arith) .1)

@@ -16,18 +16,18 @@ and-true false = refl
 
 module _ (a : Asked) (starts columns edgeColumns : List ℕ) (h : ℕ) {st : ℕ} where
   -- the degrees
-  pub tests-starts : st ≡ 1 → startsSound ieee64 a starts h ≡ rowsTest st a starts columns edgeColumns h
+  pub tests-starts : st ≡ 1 → startsSound a starts h ≡ rowsTest st a starts columns edgeColumns h
   unfolding rowsTest
-  tests-starts e = rw e (sym (and-true (startsSound ieee64 a starts h)))
+  tests-starts e = rw e (sym (and-true (startsSound a starts h)))
 
   -- the edges
-  pub tests-columns : st ≡ 2 → (startsSound ieee64 a starts h && columnsSound ieee64 a starts columns h) ≡ rowsTest st a starts columns edgeColumns h
+  pub tests-columns : st ≡ 2 → (startsSound a starts h && columnsSound a starts columns h) ≡ rowsTest st a starts columns edgeColumns h
   unfolding rowsTest
-  tests-columns e = rw e (ap (λ (b : Bool). startsSound ieee64 a starts h && b) (sym (and-true (columnsSound ieee64 a starts columns h))))
+  tests-columns e = rw e (ap (λ (b : Bool). startsSound a starts h && b) (sym (and-true (columnsSound a starts columns h))))
 
   -- the filter's passes and the plain pass
   pub tests-edges : (st ≡ 5) ⊎ (st ≡ 13)
-      → (startsSound ieee64 a starts h && columnsSound ieee64 a starts edgeColumns h) ≡ rowsTest st a starts columns edgeColumns h
+      → (startsSound a starts h && columnsSound a starts edgeColumns h) ≡ rowsTest st a starts columns edgeColumns h
   unfolding rowsTest
   tests-edges e = ⊎-elim (λ f. rw f refl) (λ f. rw f refl) e
 

@@ -14,8 +14,8 @@ use Rattle.machine.specs.Ranges.{readsEdges, readsStarts, startsSound, columnsS
 -- the machine's `rowsSound`, whose graph has these starts and columns, and whose memory has these edge columns
 unfoldable pub rowsTest : ℕ → Asked → List ℕ → List ℕ → List ℕ → ℕ → Bool
 rowsTest st a starts columns edgeColumns h =
-    (not (readsStarts st) || startsSound ieee64 a starts h)
-    && ((not (eqb st 2) || columnsSound ieee64 a starts columns h) && (not (readsEdges st) || columnsSound ieee64 a starts edgeColumns h))
+    (not (readsStarts st) || startsSound a starts h)
+    && ((not (eqb st 2) || columnsSound a starts columns h) && (not (readsEdges st) || columnsSound a starts edgeColumns h))
 
 -- what the tests of a chunk's rows rest on: chunk h has rows, and the lists are long enough for what was asked
 pub record ChunkLists (a : Asked) (starts columns edgeColumns : List ℕ) (h : ℕ) : Type 0 where

@@ -15,7 +15,7 @@ use state::Asked;
 // No row of chunk h starts above the next one, and none of its entries lies past the entry count.
 pub fn starts_sound(a: Asked, h: usize, starts: &[u64]) -> bool
     requires { ⌜ a .rows < length (now starts) ⌝ }
-    ensures { λ r. ⌜ r ≡ startsSound ieee64 (askedIn a) (now (starts .entry)) h ⌝ }
+    ensures { λ r. ⌜ r ≡ startsSound (askedIn a) (now (starts .entry)) h ⌝ }
 {
     let n = a.rows;
     let entries = a.entries as u64;
@@ -38,7 +38,7 @@ pub fn starts_sound(a: Asked, h: usize, starts: &[u64]) -> bool
 pub fn columns_sound(a: Asked, h: usize, starts: &[u64], columns: &[u32]) -> bool
     requires { ⌜ Starts (now starts) (firstRow (a .rows) h) (firstRow (a .rows) (h + 1)) (a .entries) ⌝ }
     requires { ⌜ a .entries ≤ length (now columns) ⌝ }
-    ensures { λ r. ⌜ r ≡ columnsSound ieee64 (askedIn a) (now (starts .entry)) (now (columns .entry)) h ⌝ }
+    ensures { λ r. ⌜ r ≡ columnsSound (askedIn a) (now (starts .entry)) (now (columns .entry)) h ⌝ }
 {
     let n = a.rows;
     let first = input::first_row(n, h);

@@ -15,6 +15,10 @@ use Rattle.machine.specs.State.{Stage, stageOf, Asked, wide, chunkCount,
 use Rattle.machine.specs.State as stage
 use Rattle.machine.specs.Work.{freeBlock, endingIn}
 
+-- a pass more
+abbrev pub passCounted : Counts → Counts
+passCounted t = record { passes = t .passes + 1; refreshed = t .refreshed; zeroed = t .zeroed; isolated = t .isolated }
+
 module _ (A : Arith) where
   -- ---- the totals: the partials upward, a number at each place below the width, zeros behind it
   unfoldable pub totalAt : Asked → List (A .F) → ℕ → A .F
@@ -124,10 +128,7 @@ module _ (A : Arith) where
         norm = p .norm;
       }
 
-  -- a pass more; what a column's end raises
-  abbrev pub passCounted : Counts → Counts
-  passCounted t = record { passes = t .passes + 1; refreshed = t .refreshed; zeroed = t .zeroed; isolated = t .isolated }
-
+  -- what a column's end raises
   abbrev pub endCounted : Ending A → Counts → Counts
   endCounted e t = record { passes = t .passes; refreshed = raisedRefreshed A e (t .refreshed); zeroed = raisedZeroed A e (t .zeroed); isolated = t .isolated }
 

@@ -39,6 +39,18 @@ readsEdges st = eqb st 5 || eqb st 13
 abbrev pub readsStarts : ℕ → Bool
 readsStarts st = eqb st 1 || (eqb st 2 || readsEdges st)
 
+-- row i's start is above the next one, or that one above the entry count
+abbrev pub startFault : ℕ → List ℕ → ℕ → Bool
+startFault entries starts i = ltb (getD starts (i + 1) 0) (getD starts i 0) || ltb entries (getD starts (i + 1) 0)
+
+unfoldable pub startsSound : Asked → List ℕ → ℕ → Bool
+startsSound a starts h = noneFrom (startFault (a .entries) starts) (firstRow (a .rows) h) (firstRow (a .rows) (h + 1))
+
+-- the columns of the chunk's entries are below n
+unfoldable pub columnsSound : Asked → List ℕ → List ℕ → ℕ → Bool
+columnsSound a starts columns h =
+    noneFrom (λ p. leb (a .rows) (getD columns p 0)) (getD starts (firstRow (a .rows) h) 0) (getD starts (firstRow (a .rows) (h + 1)) 0)
+
 module _ (A : Arith) where
   unfoldable pub boundSound : A .F → Bool
   boundSound b = A .le (A .boundLeast) b && A .le b (A .boundMost)
@@ -65,18 +77,6 @@ module _ (A : Arith) where
 
   unfoldable pub lentEnough : Asked → Lent A → List ℕ → Bool
   lentEnough a m marks = passes (testLent (a .dims) (a .rows) (a .entries) (wholesOf (lengthsOf A m marks)))
-
-  -- row i's start is above the next one, or that one above the entry count
-  abbrev pub startFault : ℕ → List ℕ → ℕ → Bool
-  startFault entries starts i = ltb (getD starts (i + 1) 0) (getD starts i 0) || ltb entries (getD starts (i + 1) 0)
-
-  unfoldable pub startsSound : Asked → List ℕ → ℕ → Bool
-  startsSound a starts h = noneFrom (startFault (a .entries) starts) (firstRow (a .rows) h) (firstRow (a .rows) (h + 1))
-
-  -- the columns of the chunk's entries are below n
-  unfoldable pub columnsSound : Asked → List ℕ → List ℕ → ℕ → Bool
-  columnsSound a starts columns h =
-      noneFrom (λ p. leb (a .rows) (getD columns p 0)) (getD starts (firstRow (a .rows) h) 0) (getD starts (firstRow (a .rows) (h + 1)) 0)
 
   -- where the stage reads them for the chunk's rows: the starts; in the edges stage the graph's columns; in the passes the lent edge columns
   unfoldable pub rowsSound : ℕ → Asked → Lists A → Lent A → ℕ → Bool

@@ -26,6 +26,7 @@ use Rattle.machine.specs.State as stage
 use Rattle.machine.specs.Work.{ownRow, ownEntry, ownPlace, ownPartial, freeBlock, operatorIn, filterMultipliers, endingIn, heldBlock, heldOutput, columnIn, valueIn, rowIn, passWork, workBy, work}
 use Rattle.machine.specs.Ready.{AskedReady, ProgressReady, StateReady, LentReady}
 use Rattle.machine.proofs.Own.{true-within, own-row-once, own-place-once, place-owned}
+use Rattle.ready.proofs.Widths.{one-most, own-most, dims-most}
 use Rattle.promises.proofs.RowPlaces.{row-of-place, column-of-place, row-same}
 use Rattle.promises.proofs.RowLocal.{RowLocal, subtracted-local, written-local, centred-local, scaled-local}
 use Rattle.promises.proofs.Lenses.{inverseL, v0L, edgeColumnsL, edgeWeightsL, partialsL, outputL, blockL, block-get-put, block-else, partials-block, output-block, free-current, free-previous, still-inverse, still-v0, still-columns, still-weights, still-partials, still-output, still-block, Acts, acts-fill, acts-two, acts-idle}
@@ -90,18 +91,6 @@ module _ (A : Arith) where
     some : 0 < k
     some = omega arith
 
-    square-most : 1 * k ≤ k * k
-    square-most = mul-le-mul-right {m = 1} {n = k} k some
-
-    one-most : 1 ≤ k * k
-    one-most = omega (arith, square-most)
-
-    own-most : p .column + 1 ≤ k * k
-    own-most = omega (arith, r .progress .column, square-most)
-
-    dims-most : s .asked .dims ≤ k * k
-    dims-most = omega (arith, square-most)
-
     -- ---- one law for each kind of list
     rows-act : (L : Lens (Lent A) (A .F)) (val : ℕ → Lent A → ℕ → A .F)
         → ((l : List (A .F)) (m : Lent A) → length l ≡ length (L .get m) → LentReady A a m → LentReady A a (L .put l m))
@@ -135,13 +124,13 @@ module _ (A : Arith) where
     norm-act : Acts A a (λ h m. workBy A stage.normBefore s g h m)
     unfolding fillOp
     norm-act =
-        partials-act 1 (λ h m q. partialSum A n (λ i. square A (heldBlock A a (p .current) m i (p .column))) h) one-most
+        partials-act 1 (λ h m q. partialSum A n (λ i. square A (heldBlock A a (p .current) m i (p .column))) h) (one-most r)
         (λ h l m e t i o lt. ap (λ (v : List (A .F)). partialSum A n (λ r. square A (blockOf (A .none) n k v r (p .column))) h) (partials-block A (p .current) l m))
 
     dots-act : Acts A a (λ h m. workBy A stage.firstDots s g h m)
     unfolding fillOp
     dots-act =
-        partials-act (p .column + 1) (λ h m q. partialSum A n (dotTerm A (vectorOf (A .none) (m .v0)) (heldBlock A a (p .current) m) (p .column) (q - h * (k * k))) h) own-most
+        partials-act (p .column + 1) (λ h m q. partialSum A n (dotTerm A (vectorOf (A .none) (m .v0)) (heldBlock A a (p .current) m) (p .column) (q - h * (k * k))) h) (own-most r)
         (λ h l m e t i o lt. ap (λ (v : List (A .F)). partialSum A n (dotTerm A (vectorOf (A .none) (m .v0)) (blockOf (A .none) n k v) (p .column) (i - h * (k * k))) h) (partials-block A (p .current) l m))
 
     pub acts-by : (st : Stage) → Acts A a (λ h m. workBy A st s g h m)
@@ -189,11 +178,11 @@ module _ (A : Arith) where
     acts-by stage.rotate =
         output-act (λ h m. numberAt n (a .dims) (unscaled A (vectorOf (A .none) (m .inverse)) (rotated A k (heldBlock A a (p .current) m) (blockOf (A .none) k k (s .vectors)) (s .order))))
         (λ h l m e t i o lt. ap (λ (v : List (A .F)). numberAt n (a .dims) (unscaled A (vectorOf (A .none) (m .inverse)) (rotated A k (blockOf (A .none) n k v) (blockOf (A .none) k k (s .vectors)) (s .order))) i) (output-block A (p .current) l m))
-    acts-by stage.sums = partials-act (a .dims) (λ h m q. partialSum A n (λ i. heldOutput A a m i (q - h * (k * k))) h) dims-most (λ h l m e t i o lt. refl)
+    acts-by stage.sums = partials-act (a .dims) (λ h m q. partialSum A n (λ i. heldOutput A a m i (q - h * (k * k))) h) (dims-most r) (λ h l m e t i o lt. refl)
     acts-by stage.centre =
         output-act (λ h m. placeVal n (a .dims) (outputL A) (centred A n (vectorOf (A .none) (s .totals))) h m)
         (in-place n (a .dims) (r .asked .dims-least) (outputL A) (λ m. centred A n (vectorOf (A .none) (s .totals))) (λ m. centred-local A (a .dims) n (vectorOf (A .none) (s .totals))) (λ l m. refl))
-    acts-by stage.squares = partials-act (a .dims) (λ h m q. partialSum A n (λ i. square A (heldOutput A a m i (q - h * (k * k)))) h) dims-most (λ h l m e t i o lt. refl)
+    acts-by stage.squares = partials-act (a .dims) (λ h m q. partialSum A n (λ i. square A (heldOutput A a m i (q - h * (k * k)))) h) (dims-most r) (λ h l m e t i o lt. refl)
     acts-by stage.scale =
         output-act (λ h m. placeVal n (a .dims) (outputL A) (scaled A (vectorOf (A .none) (s .totals))) h m)
         (in-place n (a .dims) (r .asked .dims-least) (outputL A) (λ m. scaled A (vectorOf (A .none) (s .totals))) (λ m. scaled-local A (a .dims) (vectorOf (A .none) (s .totals))) (λ l m. refl))

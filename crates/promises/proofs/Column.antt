@@ -3,7 +3,6 @@ use mathlib.Core.Path.{_≡_, refl, sym, ap, ap₂, _∙_, subst}
 use mathlib.Core.Bool.{Bool, true, false}
 use mathlib.Core.List.{List}
 use Prim.Native.Nat.{ℕ, zero, suc, _+_, _-_, _*_, _≤_, _<_}
-use native.Mathlib.Nat.{mul-le-mul-right, mul-le-mul}
 use native.Mathlib.Omega.{arith}
 use lib.Dec.{eqb}
 use lib.ListN.{length, getD}
@@ -12,6 +11,7 @@ use Rattle.definition.specs.ChunkedColumnReduce.{Vector, Block, square, columnN
 use Rattle.definition.specs.Memory.{vectorOf, blockOf, numberAt}
 use Rattle.definition.specs.Numbers.{Params, width, chunks}
 use Rattle.definition.specs.OrthonormalizeBlock.{Ending, ending, dotTerm, dots, subtracted, projected, twiceProjected, attemptEnding, written}
+use Rattle.definition.proofs.Places.{square-least}
 use Rattle.held.specs.Calls.{Base, whole}
 use Rattle.held.proofs.Lens.{Lens, fillOp, Local, whole-length, whole-is}
 use Rattle.machine.specs.State.{Asked, askedOf, matrixRoom, Lists, Progress, State, Lent, blockAt, withBlock, withPartials}
@@ -68,14 +68,11 @@ module _ (A : Arith) (d : ℕ) (params : Params) (g : Lists A) (U : Sure A d par
       → Local (partialsL A) (ownPartial k width) (A .none) (partialVal A a ready f)
   partials-local width f e h l m z t i o lt = ap (λ (φ : ℕ → ℕ → A .F). partialSum A n (φ (i - h * (k * k))) h) (e l m)
 
-  square-most : 1 * k ≤ k * k
-  square-most = mul-le-mul-right {m = 1} {n = k} k (omega arith)
-
   pub norm-leaves : (p : Progress A) (v : Block A) (m : Lent A) → p .column < k → Stands (p .current) v m
       → normOf A a (whole (λ h x. normWork A a p h x) C m .partials) ≡ columnNorm A n v (p .column)
   unfolding fillOp normOf columnNorm
   norm-leaves p v m q S =
-      ap (A .root) (total-after A a ready 1 (omega (arith, square-most)) f
+      ap (A .root) (total-after A a ready 1 (omega (arith, square-least k (omega arith))) f
       (partials-local 1 f (λ l x. ap squares (partials-block A (p .current) l x)))
       m (S .lent) 0 (omega arith))
       ∙ unfold columnNorm in norm-cong A n k (heldBlock A a (p .current) m) v (p .column) q (S .block)
@@ -92,7 +89,7 @@ module _ (A : Arith) (d : ℕ) (params : Params) (g : Lists A) (U : Sure A d par
   unfolding fillOp
   dots-leave p v m l S q u =
       totals-at A a ready (p .column + 1) _ q (omega (arith, U .dims-most)) (omega arith)
-      ∙ total-after A a ready (p .column + 1) (omega (arith, square-most)) f
+      ∙ total-after A a ready (p .column + 1) (omega (arith, square-least k (omega arith))) f
       (partials-local (p .column + 1) f (λ l x. ap (λ (w : List (A .F)). dotTerm A (vectorOf (A .none) (x .v0)) (blockOf (A .none) n k w) (p .column)) (partials-block A (p .current) l x)))
       m (S .lent) q (omega arith)
       ∙ dots-cong A n k (vectorOf (A .none) (m .v0)) v₀ (heldBlock A a (p .current) m) v (p .column) q l u (S .graph .v0) (S .block)

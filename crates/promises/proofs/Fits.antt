@@ -91,13 +91,13 @@ module _ (A : Arith) (d : ℕ) (params : Params) (g : Lists A) where
     rows-sound : (st : ℕ) (m : Lent A) (h : ℕ) → (readsEdges st ≡ true → Columns (m .edgeColumns) 0 (asked .entries) (asked .rows)) → rowsSound A st asked g m h ≡ true
     unfolding rowsSound
     rows-sound st m h e =
-        both _ _ (or-right (not (readsStarts st)) (startsSound A asked (g .starts) h) (starts-sound A asked (g .starts) h (chunk-starts h)))
-        (both _ _ (or-right (not (eqb st 2)) (columnsSound A asked (g .starts) (g .columns) h) (columns-sound A asked (g .starts) (g .columns) h (chunk-up h) (chunk-columns (g .columns) h (G .below))))
+        both _ _ (or-right (not (readsStarts st)) (startsSound asked (g .starts) h) (starts-sound asked (g .starts) h (chunk-starts h)))
+        (both _ _ (or-right (not (eqb st 2)) (columnsSound asked (g .starts) (g .columns) h) (columns-sound asked (g .starts) (g .columns) h (chunk-up h) (chunk-columns (g .columns) h (G .below))))
         (go (readsEdges st) refl))
       where
-        go : (b : Bool) → readsEdges st ≡ b → (not (readsEdges st) || columnsSound A asked (g .starts) (m .edgeColumns) h) ≡ true
-        go true z = or-right (not (readsEdges st)) (columnsSound A asked (g .starts) (m .edgeColumns) h) (columns-sound A asked (g .starts) (m .edgeColumns) h (chunk-up h) (chunk-columns (m .edgeColumns) h (e z)))
-        go false z = or-left (not (readsEdges st)) (columnsSound A asked (g .starts) (m .edgeColumns) h) (ap not z)
+        go : (b : Bool) → readsEdges st ≡ b → (not (readsEdges st) || columnsSound asked (g .starts) (m .edgeColumns) h) ≡ true
+        go true z = or-right (not (readsEdges st)) (columnsSound asked (g .starts) (m .edgeColumns) h) (columns-sound asked (g .starts) (m .edgeColumns) h (chunk-up h) (chunk-columns (m .edgeColumns) h (e z)))
+        go false z = or-left (not (readsEdges st)) (columnsSound asked (g .starts) (m .edgeColumns) h) (ap not z)
 
     lists-sound : (s : State A) (m : Lent A) (start marks : List ℕ) → Fit s m → Marked (chunks (asked .rows)) start marks → listsSound A s g m marks ≡ true
     unfolding listsSound

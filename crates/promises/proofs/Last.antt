@@ -3,7 +3,6 @@ use mathlib.Core.Path.{_≡_, refl, sym, ap, ap₂, _∙_, subst}
 use mathlib.Core.Bool.{Bool, true, false, false≢true}
 use mathlib.Core.List.{List}
 use Prim.Native.Nat.{ℕ, zero, suc, _+_, _-_, _*_, _≤_, _<_}
-use native.Mathlib.Nat.{mul-le-mul-right, suc-mul}
 use native.Mathlib.Omega.{arith}
 use lib.ListN.{length, getD, replicate, length-replicate}
 use Rattle.definition.specs.Arith.{Arith}
@@ -15,6 +14,7 @@ use Rattle.definition.specs.SpectralEmbedding.{unscaled, centred, scaled, colum
 use Rattle.definition.specs.SpectralEmbedding as embedding
 use Rattle.definition.proofs.Fill.{fill-in, fill-length}
 use Rattle.definition.proofs.Sums.{sum-cong, chunked-cong}
+use Rattle.definition.proofs.Places.{square-least}
 use Rattle.held.specs.Calls.{Base, whole}
 use Rattle.held.proofs.Law.{ends-now}
 use Rattle.held.proofs.Lens.{fillOp, Local, whole-length, whole-is}
@@ -77,16 +77,13 @@ module _ (A : Arith) (d : ℕ) (params : Params) (g : Lists A) (U : Sure A d par
       subst (λ (x : Lent A). Out v x) (sym (whole-is (partialsL A) own (A .none) val C m))
       (record { lent = still-partials A a _ m (whole-length (partialsL A) own (A .none) val C m) (O .lent); held = O .held })
 
-  square-most : 1 * k ≤ k * k
-  square-most = mul-le-mul-right {m = 1} {n = k} k (omega arith)
-
   -- the totals of f over the output's columns
   out-totals : (f : A .F → A .F) (v : Block A) (m : Lent A) → Out v m → (c : ℕ) → c < d
       → vectorOf (A .none) (totalsOf A a d (whole (λ h x. onPartials A a d (λ q i. f (heldOutput A a x i q)) h x) C m .partials)) c ≡ chunkedSum A n (λ i. f (v i c))
   unfolding fillOp
   out-totals f v m O c l =
       totals-at A a ready d _ c (omega (arith, U .dims-most)) l
-      ∙ total-after A a ready d (omega (arith, square-most)) (λ x q i. f (heldOutput A a x i q)) (partials-local A d params g U d (λ x q i. f (heldOutput A a x i q)) (λ x y. refl)) m (O .lent) c l
+      ∙ total-after A a ready d (omega (arith, square-least k (omega arith))) (λ x q i. f (heldOutput A a x i q)) (partials-local A d params g U d (λ x q i. f (heldOutput A a x i q)) (λ x y. refl)) m (O .lent) c l
       ∙ chunked-cong A n (λ i. f (heldOutput A a m i c)) (λ i. f (v i c)) (λ i p. ap f (O .held i c p l))
 
   -- ---- the seed's blocks

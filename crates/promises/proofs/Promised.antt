@@ -11,7 +11,7 @@ use Rattle.machine.specs.Calls.{Outcome, openCall}
 use Rattle.promises.specs.Promises.{callOn, called, Accepted, after}
 use Rattle.promises.specs.Promised.{Turns, none, next, Promised}
 use Rattle.promises.proofs.Ieee.{steady}
-use Rattle.promises.proofs.Promises.{stands, untouched, never-16, ends, calls-are, passes-are}
+use Rattle.promises.proofs.Promises.{stands, marked, so-far, untouched, never-16, ends, calls-are, passes-are}
 use Rattle.promises.proofs.Fifteen.{ended-15, only-15}
 use Rattle.promises.proofs.Upward.{whole-is}
 
@@ -26,6 +26,8 @@ pub promised : (d : ℕ) (params : Params) (g : Lists ieee64) (m : Lent ieee64) 
 promised d params g m marks ok ks o₀ o e t =
     subst (λ (x : Outcome ieee64). Promised d params g m marks ks x) (sym (turns-are g ks o₀ o t ∙ ap (called ieee64 g ks) e)) (record {
       stands = stands ieee64 (steady binary64) d params g m marks ok ks;
+      marked = marked ieee64 (steady binary64) d params g m marks ok ks;
+      so-far = so-far ieee64 (steady binary64) d params g m marks ok ks;
       untouched = untouched ieee64 (steady binary64) d params g m marks ok ks;
       never-16 = never-16 ieee64 (steady binary64) d params g m marks ok ks;
       ended-15 = ended-15 ieee64 (steady binary64) d params g m marks ok ks;

@@ -19,7 +19,7 @@ use Rattle.input.specs.Valid.{ValidParams, ValidRequest}
 use Rattle.input.proofs.Accepted.{request-valid}
 use Rattle.held.specs.Calls.{Call, chunk, close, Machine, Base, Conf, opened, finished, iter, full, run, refusal, order, whole}
 use Rattle.held.specs.Calls as held
-use Rattle.held.specs.Marks.{done, cleared}
+use Rattle.held.specs.Marks.{done, count, cleared, Marked}
 use Rattle.held.proofs.Law.{Way, counted, progressed, reached, not-damaged, one-end, canonical, as-canonical, iter-end}
 use Rattle.machine.specs.State.{Asked, chunkCount, lastStage, matrixRoom, orderRoom, Lists, State, Lent, askedOf, lengthsOf, openedState, begunAt, emptyState}
 use Rattle.machine.specs.Ready.{LentReady}
@@ -139,17 +139,30 @@ module _ (A : Arith) (steady : Steady A) (d : ℕ) (params : Params) (g : Lists 
     pub follows : Follows A d params g conf now
     follows = run-follows A d params g ks (opened K start marks) (openCall A d params g m marks) opening
 
+    -- the stages closed, and what the general law says of the run there
+    there : (p : ℕ) × (p ≤ stages A d params g sure) × held.Seen K start marks p conf × Shows A d params g (iter K p start)
+    there = progressed K (Fit A d params g) (Shows A d params g) (fits A d params g (valid .graph)) start marks (stages A d params g sure) end way marks-enough ks
+
     -- 1: the state and the memory are the definition's for exactly the chunks done; each list shows what the definition says as the stage began
     pub stands : Standing A d params g m now
-    stands =
-        let s = progressed K (Fit A d params g) (Shows A d params g) (fits A d params g (valid .graph)) start marks (stages A d params g sure) end way marks-enough ks in
-        record {
-          closed = s .0;
-          within = omega (arith, s .1, stages-are A d params g sure);
-          state = sym (follows .state) ∙ s .2 .state;
-          lent = sym (follows .lent) ∙ s .2 .mem ∙ ap (λ (l : List ℕ). held.memAt K (iter K (s .0) start .state) (iter K (s .0) start .mem) (done l)) (follows .marks);
-          shows = s .3;
-        }
+    stands = record {
+      closed = there .0;
+      within = omega (arith, there .1, stages-are A d params g sure);
+      state = sym (follows .state) ∙ there .2 .state;
+      lent = sym (follows .lent) ∙ there .2 .mem ∙ ap (λ (l : List ℕ). held.memAt K (iter K (there .0) start .state) (iter K (there .0) start .mem) (done l)) (follows .marks);
+      shows = there .3;
+    }
+
+    -- only the run has changed the marks; and the chunks done are calls accepted
+    pub marked : Marked (K .chunks) marks (now .marks)
+    marked = subst (Marked (K .chunks) marks) (follows .marks) (there .2 .marks)
+
+    pub so-far : acceptedOf A g ks (openCall A d params g m marks) ≡ stands .closed * suc (K .chunks) + count (done (now .marks)) (K .chunks)
+    unfolding opened stands
+    so-far =
+        run-counts A d params g ks (opened K start marks) (openCall A d params g m marks) opening
+        ∙ (let u : conf .calls ≡ 0 + held.accepted K ks (opened K start marks) = counted K ks (opened K start marks) in omega (arith, u, there .2 .calls))
+        ∙ ap (λ (l : List ℕ). there .0 * suc (K .chunks) + count (done l) (K .chunks)) (follows .marks)
 
     -- and what lies behind the sizes in use is untouched
     pub untouched : Untouched A (askedOf A d params g) m (now .lent)

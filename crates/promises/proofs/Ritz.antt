@@ -3,7 +3,6 @@ use mathlib.Core.Path.{_≡_, refl, sym, ap, ap₂, _∙_, subst}
 use mathlib.Core.Bool.{Bool, true, false, cond}
 use mathlib.Core.List.{List, _++_}
 use Prim.Native.Nat.{ℕ, zero, suc, _+_, _-_, _*_, _≤_, _<_}
-use native.Mathlib.Nat.{mul-le-mul}
 use native.Mathlib.Omega.{arith}
 use lib.Dec.{eqb, ltb}
 use lib.ListN.{length, getD, replicate, length-replicate, getD-replicate, List·getD-append}
@@ -18,7 +17,7 @@ use Rattle.definition.specs.Memory.{place, rowAt, columnAt, vectorOf, blockOf, 
 use Rattle.definition.specs.Numbers.{Params, width, chunks}
 use Rattle.definition.proofs.Arranged.{arrange-length, arrange-below, arranged-cong}
 use Rattle.definition.proofs.Fill.{split, fill-in, fill-length}
-use Rattle.definition.proofs.Places.{place-below, place-row, place-column, number-at}
+use Rattle.definition.proofs.Places.{square-most, place-below, place-row, place-column, number-at}
 use Rattle.definition.proofs.Sums.{partial-cong, chunked-cong}
 use Rattle.definition.proofs.Agree.{Agree}
 use Rattle.definition.proofs.Agree.{Alike, symmetrized-agree, jacobi-agree}
@@ -59,7 +58,7 @@ module _ (A : Arith) (d : ℕ) (params : Params) (g : Lists A) (U : Sure A d par
   Stands = Standing A d params g U
 
   square-room : k * k ≤ matrixRoom
-  square-room = let l : k ≤ 15 = omega (arith, U .dims-most) in omega (arith, mul-le-mul l l)
+  square-room = square-most k (omega (arith, U .dims-most))
 
   some : 0 < k
   some = omega arith

@@ -19,6 +19,7 @@ use Rattle.machine.specs.State as stage
 use Rattle.machine.specs.Work.{ownRow, ownEntry, ownPlace, ownPartial, freeBlock, workBy, work}
 use Rattle.machine.specs.Ready.{AskedReady, StateReady}
 use Rattle.machine.proofs.Own.{true-within, row-owned, place-owned}
+use Rattle.ready.proofs.Widths.{one-most, own-most, dims-most}
 use Rattle.promises.specs.Promises.{Untouched}
 
 -- a test that can't pass
@@ -82,18 +83,6 @@ module _ (A : Arith) (m₀ : Lent A) where
     abbrev a : Asked
     a = s .asked
 
-    square-most : 1 * wide a ≤ wide a * wide a
-    square-most = mul-le-mul-right {m = 1} {n = wide a} (wide a) (omega arith)
-
-    one : 1 ≤ wide a * wide a
-    one = omega (arith, square-most)
-
-    dots : s .progress .column + 1 ≤ wide a * wide a
-    dots = omega (arith, r .progress .column, square-most)
-
-    dims : a .dims ≤ wide a * wide a
-    dims = omega (arith, square-most)
-
     untouched-by : (st : Stage) (h : ℕ) (m : Lent A) → h < chunkCount a → Untouched A a m₀ m → Untouched A a m₀ (workBy A st s g h m)
     untouched-by stage.empty h m l T = T
     untouched-by stage.degrees h m l T =
@@ -105,19 +94,19 @@ module _ (A : Arith) (m₀ : Lent A) where
     untouched-by stage.v0 h m l T = put-v0 a m T _ (λ p q. where-out (ownRow (a .rows) h) _ (m .v0) p (A .none) (row-out (a .rows) h p q))
     untouched-by stage.startBlock h m l T = on-block a m T 0 h _
     untouched-by stage.filterPass h m l T = on-block a m T (freeBlock (s .progress .current) (s .progress .previous)) h _
-    untouched-by stage.normBefore h m l T = on-partials a m T 1 h _ one l
-    untouched-by stage.firstDots h m l T = on-partials a m T (s .progress .column + 1) h _ dots l
+    untouched-by stage.normBefore h m l T = on-partials a m T 1 h _ (one-most r) l
+    untouched-by stage.firstDots h m l T = on-partials a m T (s .progress .column + 1) h _ (own-most r) l
     untouched-by stage.firstSubtract h m l T = on-block a m T (s .progress .current) h _
-    untouched-by stage.secondDots h m l T = on-partials a m T (s .progress .column + 1) h _ dots l
+    untouched-by stage.secondDots h m l T = on-partials a m T (s .progress .column + 1) h _ (own-most r) l
     untouched-by stage.secondSubtract h m l T = on-block a m T (s .progress .current) h _
-    untouched-by stage.normAfter h m l T = on-partials a m T 1 h _ one l
+    untouched-by stage.normAfter h m l T = on-partials a m T 1 h _ (one-most r) l
     untouched-by stage.write h m l T = on-block a m T (s .progress .current) h _
     untouched-by stage.plainPass h m l T = on-block a m T (freeBlock (s .progress .current) (s .progress .current)) h _
     untouched-by stage.products h m l T = on-partials a m T (wide a * wide a) h _ (omega arith) l
     untouched-by stage.rotate h m l T = on-output a m T h _
-    untouched-by stage.sums h m l T = on-partials a m T (a .dims) h _ dims l
+    untouched-by stage.sums h m l T = on-partials a m T (a .dims) h _ (dims-most r) l
     untouched-by stage.centre h m l T = on-output a m T h _
-    untouched-by stage.squares h m l T = on-partials a m T (a .dims) h _ dims l
+    untouched-by stage.squares h m l T = on-partials a m T (a .dims) h _ (dims-most r) l
     untouched-by stage.scale h m l T = on-output a m T h _
     untouched-by stage.ended h m l T = T
 

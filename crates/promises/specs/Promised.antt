@@ -6,6 +6,7 @@ use lib.ListN.{length}
 use Rattle.definition.specs.Arith.{ieee64}
 use Rattle.definition.specs.Numbers.{Params, chunks}
 use Rattle.held.specs.Calls.{Call}
+use Rattle.held.specs.Marks.{done, count, Marked}
 use Rattle.machine.specs.State.{Lists, Lent, askedOf}
 use Rattle.machine.specs.Calls.{Outcome, openCall}
 use Rattle.promises.specs.Run.{machineOf}
@@ -22,6 +23,11 @@ pub data Turns (g : Lists ieee64) : List Call → Outcome ieee64 → Outcome iee
 pub record Promised (d : ℕ) (params : Params) (g : Lists ieee64) (m : Lent ieee64) (marks : List ℕ) (ks : List Call) (o : Outcome ieee64) : Type 0 where
   -- state and memory are the definition's for exactly the chunks done, and nothing behind the sizes in use is touched
   pub stands : Standing ieee64 d params g m o
+  -- the marks are as long as they were lent, each of the first C is 0 or 1, and those behind C are as they were
+  pub marked : Marked (chunks (length (g .starts) - 1)) marks (o .marks)
+  -- the chunks done are calls accepted: C chunks and a closing for each stage closed, and the chunks marked since
+  pub so-far : acceptedOf ieee64 g ks (openCall ieee64 d params g m marks)
+      ≡ stands .closed * suc (chunks (length (g .starts) - 1)) + count (done (o .marks)) (chunks (length (g .starts) - 1))
   pub untouched : Untouched ieee64 (askedOf ieee64 d params g) m (o .lent)
   -- no call is refused by 16; 15 is met exactly by a run that has ended
   pub never-16 : (k : Call) → machineOf ieee64 g .refuse k (o .state) (o .lent) (o .marks) ≡ 16 → ⊥

@@ -82,16 +82,16 @@ module _ (A : Arith) where
   -- ---- what the tests of a chunk's rows show
   module _ (st : ℕ) (a : Asked) (g : Lists A) (m : Lent A) (h : ℕ) (long : a .rows < length (g .starts)) (l : h < chunkCount a) where
     rows-parted : rowsSound A st a g m h ≡ true
-        → ((not (readsStarts st) || startsSound A a (g .starts) h) ≡ true) × ((not (eqb st 2) || columnsSound A a (g .starts) (g .columns) h) ≡ true)
-        × ((not (readsEdges st) || columnsSound A a (g .starts) (m .edgeColumns) h) ≡ true)
+        → ((not (readsStarts st) || startsSound a (g .starts) h) ≡ true) × ((not (eqb st 2) || columnsSound a (g .starts) (g .columns) h) ≡ true)
+        × ((not (readsEdges st) || columnsSound a (g .starts) (m .edgeColumns) h) ≡ true)
     unfolding rowsSound
     rows-parted e =
-        let one = both-of (not (readsStarts st) || startsSound A a (g .starts) h) _ e in
-        let two = both-of (not (eqb st 2) || columnsSound A a (g .starts) (g .columns) h) _ (one .1) in
+        let one = both-of (not (readsStarts st) || startsSound a (g .starts) h) _ e in
+        let two = both-of (not (eqb st 2) || columnsSound a (g .starts) (g .columns) h) _ (one .1) in
         (one .0, two .0, two .1)
 
     starts-read : rowsSound A st a g m h ≡ true → readsStarts st ≡ true → Starts (g .starts) (firstRow (a .rows) h) (firstRow (a .rows) (h + 1)) (a .entries)
-    starts-read e z = starts-ready A a (g .starts) h long (holds (readsStarts st) (startsSound A a (g .starts) h) (rows-parted e .0) z) l
+    starts-read e z = starts-ready a (g .starts) h long (holds (readsStarts st) (startsSound a (g .starts) h) (rows-parted e .0) z) l
 
     starts-rise : rowsSound A st a g m h ≡ true → readsStarts st ≡ true
         → getD (g .starts) (firstRow (a .rows) h) 0 ≤ getD (g .starts) (firstRow (a .rows) (h + 1)) 0
@@ -102,12 +102,12 @@ module _ (A : Arith) where
     rows-ready : rowsSound A st a g m h ≡ true → RowsReady A st a g m h
     rows-ready e = record {
       starts = starts-read e;
-      columns = λ z. columns-ready A a (g .starts) (g .columns) h
+      columns = λ z. columns-ready a (g .starts) (g .columns) h
           (starts-rise e (second-or (eqb st 1) _ (first-or (eqb st 2) (readsEdges st) (eq-eqb st 2 z))))
-          (holds (eqb st 2) (columnsSound A a (g .starts) (g .columns) h) (rows-parted e .1) (eq-eqb st 2 z));
-      edgeColumns = λ z. columns-ready A a (g .starts) (m .edgeColumns) h
+          (holds (eqb st 2) (columnsSound a (g .starts) (g .columns) h) (rows-parted e .1) (eq-eqb st 2 z));
+      edgeColumns = λ z. columns-ready a (g .starts) (m .edgeColumns) h
           (starts-rise e (second-or (eqb st 1) _ (second-or (eqb st 2) (readsEdges st) z)))
-          (holds (readsEdges st) (columnsSound A a (g .starts) (m .edgeColumns) h) (rows-parted e .2) z);
+          (holds (readsEdges st) (columnsSound a (g .starts) (m .edgeColumns) h) (rows-parted e .2) z);
     }
 
   -- ---- soundness from the facts

@@ -71,6 +71,73 @@ each-of-ten f a0 a1 a2 a3 a4 a5 a6 a7 a8 a9 (suc (suc (suc (suc (suc (suc (suc (
 each-of-ten f a0 a1 a2 a3 a4 a5 a6 a7 a8 a9 (suc (suc (suc (suc (suc (suc (suc (suc (suc zero))))))))) l = a9
 each-of-ten f a0 a1 a2 a3 a4 a5 a6 a7 a8 a9 (suc (suc (suc (suc (suc (suc (suc (suc (suc (suc i)))))))))) l = absurd (omega arith)
 
+-- ---- the starts of a chunk's rows
+pub starts-ready : (a : Asked) (starts : List ℕ) (h : ℕ) → a .rows < length starts → startsSound a starts h ≡ true → h < chunkCount a
+    → Starts starts (firstRow (a .rows) h) (firstRow (a .rows) (h + 1)) (a .entries)
+unfolding startsSound
+starts-ready a starts h long e l = record {
+  enough = omega (arith, first-most (a .rows) (h + 1));
+  rising = λ i p q. ltb-false (getD starts (i + 1) 0) (getD starts i 0) (fine i p q .0);
+  within = λ i p q. split first i (λ s. later i s q) (λ s. let z : i ≡ first = omega arith in
+      omega (
+        arith,
+        ap (λ (j : ℕ). getD starts j 0) z,
+        chunk-some (a .rows) h l,
+        ltb-false (getD starts (first + 1) 0) (getD starts first 0) (fine first (omega arith) (chunk-some (a .rows) h l) .0),
+        ltb-false (a .entries) (getD starts (first + 1) 0) (fine first (omega arith) (chunk-some (a .rows) h l) .1),
+      ));
+}
+  where
+    first : ℕ
+    first = firstRow (a .rows) h
+
+    fine : (i : ℕ) → firstRow (a .rows) h ≤ i → i < firstRow (a .rows) (h + 1)
+        → (ltb (getD starts (i + 1) 0) (getD starts i 0) ≡ false) × (ltb (a .entries) (getD starts (i + 1) 0) ≡ false)
+    fine i p q =
+        neither (ltb (getD starts (i + 1) 0) (getD starts i 0)) (ltb (a .entries) (getD starts (i + 1) 0))
+        (none-at (startFault (a .entries) starts) (firstRow (a .rows) h) (firstRow (a .rows) (h + 1)) (first-up (a .rows) h (h + 1) (omega arith)) e i p q)
+
+    later : (i : ℕ) → firstRow (a .rows) h < i → i ≤ firstRow (a .rows) (h + 1) → getD starts i 0 ≤ a .entries
+    later i p q =
+        let z : i - 1 + 1 ≡ i = omega arith in
+        omega (arith, ap (λ (j : ℕ). getD starts j 0) z, ltb-false (a .entries) (getD starts (i - 1 + 1) 0) (fine (i - 1) (omega arith) (omega arith) .1))
+
+pub starts-sound : (a : Asked) (starts : List ℕ) (h : ℕ)
+    → Starts starts (firstRow (a .rows) h) (firstRow (a .rows) (h + 1)) (a .entries) → startsSound a starts h ≡ true
+unfolding startsSound
+starts-sound a starts h R =
+    at-none (startFault (a .entries) starts) (firstRow (a .rows) h) (firstRow (a .rows) (h + 1)) (first-up (a .rows) h (h + 1) (omega arith))
+    (λ i p q. neither-of (ltb (getD starts (i + 1) 0) (getD starts i 0)) (ltb (a .entries) (getD starts (i + 1) 0))
+    (le-ltb (getD starts (i + 1) 0) (getD starts i 0) (R .rising i p q))
+    (le-ltb (a .entries) (getD starts (i + 1) 0) (R .within (i + 1) (omega arith) (omega arith))))
+
+-- ---- the columns of a chunk's entries
+pub columns-ready : (a : Asked) (starts columns : List ℕ) (h : ℕ)
+    → getD starts (firstRow (a .rows) h) 0 ≤ getD starts (firstRow (a .rows) (h + 1)) 0 → columnsSound a starts columns h ≡ true
+    → Columns columns (getD starts (firstRow (a .rows) h) 0) (getD starts (firstRow (a .rows) (h + 1)) 0) (a .rows)
+unfolding columnsSound
+columns-ready a starts columns h l e = record {
+  below = λ p from to. leb-false (a .rows) (getD columns p 0)
+      (none-at (λ i. leb (a .rows) (getD columns i 0)) (getD starts (firstRow (a .rows) h) 0) (getD starts (firstRow (a .rows) (h + 1)) 0) l e p from to);
+}
+
+pub columns-sound : (a : Asked) (starts columns : List ℕ) (h : ℕ)
+    → getD starts (firstRow (a .rows) h) 0 ≤ getD starts (firstRow (a .rows) (h + 1)) 0
+    → Columns columns (getD starts (firstRow (a .rows) h) 0) (getD starts (firstRow (a .rows) (h + 1)) 0) (a .rows)
+    → columnsSound a starts columns h ≡ true
+unfolding columnsSound
+columns-sound a starts columns h l R =
+    at-none (λ i. leb (a .rows) (getD columns i 0)) (getD starts (firstRow (a .rows) h) 0) (getD starts (firstRow (a .rows) (h + 1)) 0) l
+    (λ i p q. lt-leb (a .rows) (getD columns i 0) (R .below i p q))
+
+-- ---- lent memory that passes its test is long enough, list by list
+pub lent-each : (a : Asked) (lent : ℕ → ℕ) → passes (testLent (a .dims) (a .rows) (a .entries) lent) ≡ true
+    → (j : ℕ) → j < lentCount → lentSize (a .dims) (a .rows) (a .entries) j ≤ lent j
+unfolding testLent
+lent-each a lent h j l =
+    let size : ℕ → ℕ = lentSize (a .dims) (a .rows) (a .entries) in
+    ltb-false (lent j) (size j) (none-found (λ i. ltb (lent i) (size i)) 0 lentCount 10 (eqb-true (testLent (a .dims) (a .rows) (a .entries) lent .number) 0 h) j (omega arith) (omega arith))
+
 module _ (A : Arith) where
   -- ---- what was asked
   pub asked-ready : (a : Asked) → askedSound a ≡ true → AskedReady a
@@ -212,7 +279,7 @@ module _ (A : Arith) where
 
   -- ---- the lent memory: each list as long as its size
   pub lent-ready : (a : Asked) (m : Lent A) (marks : List ℕ) → lentEnough A a m marks ≡ true → LentReady A a m × (chunkCount a ≤ length marks)
-  unfolding lentEnough testLent lentSizes
+  unfolding lentEnough lentSizes
   lent-ready a m marks h = (
     record {
       inverse = long 0 (omega arith);
@@ -228,15 +295,8 @@ module _ (A : Arith) where
     long 8 (omega arith),
   )
     where
-      size : ℕ → ℕ
-      size = lentSize (a .dims) (a .rows) (a .entries)
-
-      lent : ℕ → ℕ
-      lent = wholesOf (lengthsOf A m marks)
-
-      long : (j : ℕ) → j < lentCount → size j ≤ lent j
-      long j l =
-          ltb-false (lent j) (size j) (none-found (λ i. ltb (lent i) (size i)) 0 lentCount 10 (eqb-true (testLent (a .dims) (a .rows) (a .entries) lent .number) 0 h) j (omega arith) (omega arith))
+      long : (j : ℕ) → j < lentCount → lentSize (a .dims) (a .rows) (a .entries) j ≤ wholesOf (lengthsOf A m marks) j
+      long = lent-each a (wholesOf (lengthsOf A m marks)) h
 
   pub lent-enough : (a : Asked) (m : Lent A) (marks : List ℕ) → LentReady A a m → chunkCount a ≤ length marks → lentEnough A a m marks ≡ true
   unfolding lentEnough testLent lentSizes
@@ -250,62 +310,3 @@ module _ (A : Arith) where
           each-of-ten short (le-ltb _ _ (R .inverse)) (le-ltb _ _ (R .v0)) (le-ltb _ _ (R .edgeColumns)) (le-ltb _ _ (R .edgeWeights))
           (le-ltb _ _ (R .block0)) (le-ltb _ _ (R .block1)) (le-ltb _ _ (R .block2)) (le-ltb _ _ (R .partials)) (le-ltb _ _ l)
           (le-ltb _ _ (R .output)) i (omega arith)
-
-  -- ---- the starts of a chunk's rows
-  pub starts-ready : (a : Asked) (starts : List ℕ) (h : ℕ) → a .rows < length starts → startsSound A a starts h ≡ true → h < chunkCount a
-      → Starts starts (firstRow (a .rows) h) (firstRow (a .rows) (h + 1)) (a .entries)
-  unfolding startsSound
-  starts-ready a starts h long e l = record {
-    enough = omega (arith, first-most (a .rows) (h + 1));
-    rising = λ i p q. ltb-false (getD starts (i + 1) 0) (getD starts i 0) (fine i p q .0);
-    within = λ i p q. split first i (λ s. later i s q) (λ s. let z : i ≡ first = omega arith in
-        omega (
-          arith,
-          ap (λ (j : ℕ). getD starts j 0) z,
-          chunk-some (a .rows) h l,
-          ltb-false (getD starts (first + 1) 0) (getD starts first 0) (fine first (omega arith) (chunk-some (a .rows) h l) .0),
-          ltb-false (a .entries) (getD starts (first + 1) 0) (fine first (omega arith) (chunk-some (a .rows) h l) .1),
-        ));
-  }
-    where
-      first : ℕ
-      first = firstRow (a .rows) h
-
-      fine : (i : ℕ) → firstRow (a .rows) h ≤ i → i < firstRow (a .rows) (h + 1)
-          → (ltb (getD starts (i + 1) 0) (getD starts i 0) ≡ false) × (ltb (a .entries) (getD starts (i + 1) 0) ≡ false)
-      fine i p q =
-          neither (ltb (getD starts (i + 1) 0) (getD starts i 0)) (ltb (a .entries) (getD starts (i + 1) 0))
-          (none-at (startFault A (a .entries) starts) (firstRow (a .rows) h) (firstRow (a .rows) (h + 1)) (first-up (a .rows) h (h + 1) (omega arith)) e i p q)
-
-      later : (i : ℕ) → firstRow (a .rows) h < i → i ≤ firstRow (a .rows) (h + 1) → getD starts i 0 ≤ a .entries
-      later i p q =
-          let z : i - 1 + 1 ≡ i = omega arith in
-          omega (arith, ap (λ (j : ℕ). getD starts j 0) z, ltb-false (a .entries) (getD starts (i - 1 + 1) 0) (fine (i - 1) (omega arith) (omega arith) .1))
-
-  pub starts-sound : (a : Asked) (starts : List ℕ) (h : ℕ)
-      → Starts starts (firstRow (a .rows) h) (firstRow (a .rows) (h + 1)) (a .entries) → startsSound A a starts h ≡ true
-  unfolding startsSound
-  starts-sound a starts h R =
-      at-none (startFault A (a .entries) starts) (firstRow (a .rows) h) (firstRow (a .rows) (h + 1)) (first-up (a .rows) h (h + 1) (omega arith))
-      (λ i p q. neither-of (ltb (getD starts (i + 1) 0) (getD starts i 0)) (ltb (a .entries) (getD starts (i + 1) 0))
-      (le-ltb (getD starts (i + 1) 0) (getD starts i 0) (R .rising i p q))
-      (le-ltb (a .entries) (getD starts (i + 1) 0) (R .within (i + 1) (omega arith) (omega arith))))
-
-  -- ---- the columns of a chunk's entries
-  pub columns-ready : (a : Asked) (starts columns : List ℕ) (h : ℕ)
-      → getD starts (firstRow (a .rows) h) 0 ≤ getD starts (firstRow (a .rows) (h + 1)) 0 → columnsSound A a starts columns h ≡ true
-      → Columns columns (getD starts (firstRow (a .rows) h) 0) (getD starts (firstRow (a .rows) (h + 1)) 0) (a .rows)
-  unfolding columnsSound
-  columns-ready a starts columns h l e = record {
-    below = λ p from to. leb-false (a .rows) (getD columns p 0)
-        (none-at (λ i. leb (a .rows) (getD columns i 0)) (getD starts (firstRow (a .rows) h) 0) (getD starts (firstRow (a .rows) (h + 1)) 0) l e p from to);
-  }
-
-  pub columns-sound : (a : Asked) (starts columns : List ℕ) (h : ℕ)
-      → getD starts (firstRow (a .rows) h) 0 ≤ getD starts (firstRow (a .rows) (h + 1)) 0
-      → Columns columns (getD starts (firstRow (a .rows) h) 0) (getD starts (firstRow (a .rows) (h + 1)) 0) (a .rows)
-      → columnsSound A a starts columns h ≡ true
-  unfolding columnsSound
-  columns-sound a starts columns h l R =
-      at-none (λ i. leb (a .rows) (getD columns i 0)) (getD starts (firstRow (a .rows) h) 0) (getD starts (firstRow (a .rows) (h + 1)) 0) l
-      (λ i p q. lt-leb (a .rows) (getD columns i 0) (R .below i p q))

@@ -12,7 +12,7 @@ use lib.ListN.{length, getD, set, List·getD-eq-default}
 use Rattle.definition.specs.Memory.{place, rowAt, columnAt, blockOf, numberAt, pick, fillRange}
 use Rattle.definition.specs.Requirements.{Width}
 use Rattle.definition.proofs.Agree.{Agree}
-use Rattle.definition.proofs.Places.{row-below, place-below, number-at}
+use Rattle.definition.proofs.Places.{row-below, square-most, place-below, number-at}
 use Rattle.definition.proofs.Fill.{split, same-or, mapFrom-ext, mapFrom-twice, set-mapFrom, pick-in, pick-high, fill-length, fill-in, fill-cong, fill-same, fill-over}
 
 module _ {E : Type 0} where
@@ -71,11 +71,8 @@ module _ {E : Type 0} where
         stays g f w = elim w [ inl p ↦ absurd (g (p .0) (p .1)) | inr v ↦ elim v [ inl p ↦ absurd (f (p .0) (p .1)) | inr h ↦ h ] ]
 
 -- ---- the widths
-pub square-most : (k : ℕ) → Width k → k * k ≤ 225
-square-most k w = omega (arith, mul-le-mul-right {m = k} {n = 15} k (w .most))
-
 pub place-most : (k i c : ℕ) → Width k → i < k → c < k → i * k + c < 225
-place-most k i c w p q = omega (arith, row-below i k c k p q, square-most k w)
+place-most k i c w p q = omega (arith, row-below i k c k p q, square-most k (w .most))
 
 -- ranks
 abbrev pub byRow : ℕ → ℕ → ℕ

@@ -16,10 +16,6 @@ use Rattle.sums.specs.Accumulators.{accumulators, raised, summed, withPa
 
 -- ---- places
 
--- the accumulators hold 15 by 15
-pub square-most : (k : ℕ) → k ≤ 15 → k * k ≤ accumulators
-square-most k p = omega (arith, mul-le-mul-right {m = k} {n = 15} k p)
-
 -- the places from p * k on, k of them, are row p, and their columns count from there
 pub row-in : (k p q : ℕ) → p * k ≤ q → q < p * k + k → rowAt k k q ≡ p
 unfolding rowAt

@@ -81,8 +81,8 @@ module _ (A : Arith) where
     rows-same : rowsSound A (s .progress .stage) (s .asked) g m h ≡ rowsSound A (s .progress .stage) (s .asked) g m′ h
     unfolding rowsSound
     rows-same =
-        ap (λ (b : Bool). (not (readsStarts (s .progress .stage)) || startsSound A (s .asked) (g .starts) h) && ((not (eqb (s .progress .stage) 2) || columnsSound A (s .asked) (g .starts) (g .columns) h) && b))
-        (go (readsEdges (s .progress .stage)) (λ e. ap (λ (l : List ℕ). columnsSound A (s .asked) (g .starts) l h) (edges-same e)))
+        ap (λ (b : Bool). (not (readsStarts (s .progress .stage)) || startsSound (s .asked) (g .starts) h) && ((not (eqb (s .progress .stage) 2) || columnsSound (s .asked) (g .starts) (g .columns) h) && b))
+        (go (readsEdges (s .progress .stage)) (λ e. ap (λ (l : List ℕ). columnsSound (s .asked) (g .starts) l h) (edges-same e)))
       where
         go : (b : Bool) {x y : Bool} → (b ≡ true → x ≡ y) → (not b || x) ≡ (not b || y)
         go true e = e refl

@@ -3,7 +3,6 @@ use mathlib.Core.Path.{refl, ap, ap₂}
 use mathlib.Core.Bool.{Bool}
 use mathlib.Core.List.{List}
 use Prim.Native.Nat.{ℕ, _+_, _-_, _*_, _≤_, _<_}
-use native.Mathlib.Nat.{mul-le-mul-right}
 use native.Mathlib.Omega.{arith}
 use Rattle.definition.specs.Arith.{Arith}
 use Rattle.definition.specs.ChebyshevRayleighRitz as ritz
@@ -21,6 +20,7 @@ use Rattle.machine.specs.State as stage
 use Rattle.machine.specs.Work.{ownRow, ownEntry, ownPlace, ownPartial, freeBlock, operatorIn, filterMultipliers, endingIn, heldBlock, heldOutput, columnIn, valueIn, rowIn, passWork, workBy}
 use Rattle.machine.specs.Ready.{StateReady}
 use Rattle.machine.proofs.Own.{own-row-once, own-place-once}
+use Rattle.ready.proofs.Widths.{one-most, own-most, dims-most}
 use Rattle.promises.proofs.RowLocal.{subtracted-local, written-local, centred-local, scaled-local}
 use Rattle.promises.proofs.Lenses.{v0L, partialsL, outputL, blockL, block-else, partials-block, output-block}
 use Rattle.promises.proofs.Acts.{own-partial-once, own-entry-once, placeVal, in-place, pass-local}
@@ -139,18 +139,6 @@ module _ (A : Arith) (s : State A) (g : Lists A) where
     some : 0 < k
     some = omega arith
 
-    square-most : 1 * k ≤ k * k
-    square-most = mul-le-mul-right {m = 1} {n = k} k some
-
-    one-most : 1 ≤ k * k
-    one-most = omega (arith, square-most)
-
-    own-most : p .column + 1 ≤ k * k
-    own-most = omega (arith, r .progress .column, square-most)
-
-    dims-most : s .asked .dims ≤ k * k
-    dims-most = omega (arith, square-most)
-
     block-reads : (b : ℕ) (val : ℕ → Lent A → ℕ → A .F) → Local (blockL A b) (ownPlace n k) (A .none) val → Reads A (λ h. inBlock b (ownPlace n k h)) (filled A (blockL A b) (ownPlace n k) val)
     block-reads b val loc = reads-fill A (blockL A b) (A .none) (inBlock b) (block-listed A b) (ownPlace n k) val (λ h j q. own-place-once n k h j q) loc
 
@@ -174,12 +162,12 @@ module _ (A : Arith) (s : State A) (g : Lists A) where
 
     norm-reads : Reads A (λ h. ownedBy A stage.normBefore s g h) (λ h m. workBy A stage.normBefore s g h m)
     norm-reads =
-        partials-reads 1 (λ h m q. partialSum A n (λ i. square A (heldBlock A a (p .current) m i (p .column))) h) one-most
+        partials-reads 1 (λ h m q. partialSum A n (λ i. square A (heldBlock A a (p .current) m i (p .column))) h) (one-most r)
         (λ h l m e t i o lt. ap (λ (v : List (A .F)). partialSum A n (λ r. square A (blockOf (A .none) n k v r (p .column))) h) (partials-block A (p .current) l m))
 
     dots-reads : Reads A (λ h. ownedBy A stage.firstDots s g h) (λ h m. workBy A stage.firstDots s g h m)
     dots-reads =
-        partials-reads (p .column + 1) (λ h m q. partialSum A n (dotTerm A (vectorOf (A .none) (m .v0)) (heldBlock A a (p .current) m) (p .column) (q - h * (k * k))) h) own-most
+        partials-reads (p .column + 1) (λ h m q. partialSum A n (dotTerm A (vectorOf (A .none) (m .v0)) (heldBlock A a (p .current) m) (p .column) (q - h * (k * k))) h) (own-most r)
         (λ h l m e t i o lt. ap (λ (v : List (A .F)). partialSum A n (dotTerm A (vectorOf (A .none) (m .v0)) (blockOf (A .none) n k v) (p .column) (i - h * (k * k))) h) (partials-block A (p .current) l m))
 
     pub reads-by : (st : Stage) → Reads A (λ h. ownedBy A st s g h) (λ h m. workBy A st s g h m)
@@ -255,11 +243,11 @@ module _ (A : Arith) (s : State A) (g : Lists A) where
     reads-by stage.rotate =
         output-reads (λ h m. numberAt n (a .dims) (unscaled A (vectorOf (A .none) (m .inverse)) (rotated A k (heldBlock A a (p .current) m) (blockOf (A .none) k k (s .vectors)) (s .order))))
         (λ h l m e t i o lt. ap (λ (v : List (A .F)). numberAt n (a .dims) (unscaled A (vectorOf (A .none) (m .inverse)) (rotated A k (blockOf (A .none) n k v) (blockOf (A .none) k k (s .vectors)) (s .order))) i) (output-block A (p .current) l m))
-    reads-by stage.sums = partials-reads (a .dims) (λ h m q. partialSum A n (λ i. heldOutput A a m i (q - h * (k * k))) h) dims-most (λ h l m e t i o lt. refl)
+    reads-by stage.sums = partials-reads (a .dims) (λ h m q. partialSum A n (λ i. heldOutput A a m i (q - h * (k * k))) h) (dims-most r) (λ h l m e t i o lt. refl)
     reads-by stage.centre =
         output-reads (λ h m. placeVal A n (a .dims) (outputL A) (centred A n (vectorOf (A .none) (s .totals))) h m)
         (in-place A n (a .dims) (r .asked .dims-least) (outputL A) (λ m. centred A n (vectorOf (A .none) (s .totals))) (λ m. centred-local A (a .dims) n (vectorOf (A .none) (s .totals))) (λ l m. refl))
-    reads-by stage.squares = partials-reads (a .dims) (λ h m q. partialSum A n (λ i. square A (heldOutput A a m i (q - h * (k * k)))) h) dims-most (λ h l m e t i o lt. refl)
+    reads-by stage.squares = partials-reads (a .dims) (λ h m q. partialSum A n (λ i. square A (heldOutput A a m i (q - h * (k * k)))) h) (dims-most r) (λ h l m e t i o lt. refl)
     reads-by stage.scale =
         output-reads (λ h m. placeVal A n (a .dims) (outputL A) (scaled A (vectorOf (A .none) (s .totals))) h m)
         (in-place A n (a .dims) (r .asked .dims-least) (outputL A) (λ m. scaled A (vectorOf (A .none) (s .totals))) (λ m. scaled-local A (a .dims) (vectorOf (A .none) (s .totals))) (λ l m. refl))

@@ -1,7 +1,8 @@
 -- `sums::products_partial` meets its contract: the sums, copied. Assumes nothing.
 use native.Mathlib.Omega.{arith}
 use Rattle.definition.specs.Arith.{ieee64}
-use Rattle.sums.proofs.Partials.{square-most, summed-put}
+use Rattle.definition.proofs.Places.{square-most}
+use Rattle.sums.proofs.Partials.{summed-put}
 use borrow.Author.Needs.{needs}
 use Rattle.sums.proofs.products_partial.Statement.{statement}
 use Rattle.sums.proofs.products_partial.Tie as tie

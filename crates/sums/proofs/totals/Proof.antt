@@ -1,8 +1,8 @@
 -- `sums::totals` meets its contract: the partials are rows of k * k numbers. Assumes nothing.
 use native.Mathlib.Nat.{mul-assoc}
 use native.Mathlib.Omega.{arith}
+use Rattle.definition.proofs.Places.{square-most}
 use Rattle.sums.specs.Accumulators.{summed}
-use Rattle.sums.proofs.Partials.{square-most}
 use Rattle.sums.proofs.totals.Statement.{statement}
 use Rattle.sums.proofs.totals.Tie as tie
 

@@ -4,7 +4,8 @@ use borrow.Author.Needs.{needs}
 use Rattle.machine.specs.State.{wide, chunkCount}
 use Rattle.state.specs.Said.{askedIn, progressIn, lentIn}
 use Rattle.blocks.proofs.Chosen.{chosen-enough}
-use Rattle.blocks.proofs.Chunk.{asked-width, square-least, square-most, partial-end, span-of}
+use Rattle.definition.proofs.Places.{square-least, square-most}
+use Rattle.blocks.proofs.Chunk.{asked-width, partial-end, span-of}
 use Rattle.blocks.proofs.Reductions.{dots-lent}
 use Rattle.blocks.proofs.partials.dots_stage.Statement.{statement}
 use Rattle.blocks.proofs.partials.dots_stage.Tie as tie

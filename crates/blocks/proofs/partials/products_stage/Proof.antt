@@ -6,7 +6,8 @@ use Rattle.machine.specs.State.{wide, chunkCount}
 use Rattle.state.specs.Said.{askedIn, progressIn, lentIn}
 use Rattle.blocks.specs.Chosen.{chosen}
 use Rattle.blocks.proofs.Chosen.{chosen-enough}
-use Rattle.blocks.proofs.Chunk.{asked-width, square-most, partial-end, span-of}
+use Rattle.definition.proofs.Places.{square-most}
+use Rattle.blocks.proofs.Chunk.{asked-width, partial-end, span-of}
 use Rattle.blocks.proofs.Reductions.{products-lent}
 use Rattle.blocks.proofs.partials.products_stage.Statement.{statement}
 use Rattle.blocks.proofs.partials.products_stage.Tie as tie

@@ -10,7 +10,7 @@ use Rattle.definition.specs.Memory.{vectorOf, fillRange}
 use Rattle.definition.specs.SpectralEmbedding.{spread, scaleOf}
 use Rattle.definition.proofs.Fill.{fill-length, fill-start, fill-step, fill-ahead, fill-to}
 use Rattle.machine.specs.Closing.{totalsOf, scalesOf}
-use Rattle.closing.proofs.Room.{width-room}
+use Rattle.definition.proofs.Places.{square-least}
 use Rattle.closing.proofs.reduced.column_scales.Statement.{statement}
 use Rattle.closing.proofs.reduced.column_scales.Tie as tie
 
@@ -23,7 +23,7 @@ abbrev μ-loop : tie.MeasureT-loop
 stage-totals-requires : tie.Need-stage-totals-requires Inv-loop μ-loop
 stage-totals-requires c κs =
     let s = c .before in
-    (s .pre .0, (width-room (s .args .asked .dims + 8) _ (omega arith) (omega arith), s .pre .1))
+    (s .pre .0, (omega (arith, square-least (s .args .asked .dims + 8) (omega arith)), s .pre .1))
 
 loop-holds : tie.Need-loop-holds Inv-loop μ-loop
 unfolding totalsOf

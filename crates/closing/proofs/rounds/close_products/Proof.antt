@@ -2,7 +2,7 @@
 use Prim.Native.Nat.{_+_}
 use Rattle.machine.specs.Closing.{symmetricIn, eigenMatrix, eigenVectors, orderIn, afterRound}
 use native.Mathlib.Omega.{arith}
-use Rattle.sums.proofs.Partials.{square-most}
+use Rattle.definition.proofs.Places.{square-most}
 use Rattle.closing.proofs.Order.{order-below}
 use borrow.Author.Needs.{needs}
 use Rattle.closing.proofs.rounds.close_products.Statement.{statement}

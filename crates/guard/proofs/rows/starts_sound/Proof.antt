@@ -13,7 +13,7 @@ use Rattle.guard.proofs.rows.starts_sound.Statement.{statement}
 use Rattle.guard.proofs.rows.starts_sound.Tie as tie
 
 abbrev Inv-loop : tie.InvT-loop
-Inv-loop h starts n entries end i₀ i = (i ≤ end) × (end < length starts) × (noneFrom (startFault ieee64 entries starts) i₀ end ≡ noneFrom (startFault ieee64 entries starts) i end)
+Inv-loop h starts n entries end i₀ i = (i ≤ end) × (end < length starts) × (noneFrom (startFault entries starts) i₀ end ≡ noneFrom (startFault entries starts) i end)
 
 abbrev μ-loop : tie.MeasureT-loop
 μ-loop h starts n entries end i₀ i = end - i

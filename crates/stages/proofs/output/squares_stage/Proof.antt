@@ -6,7 +6,8 @@ use Rattle.definition.specs.ChunkedColumnReduce.{square}
 use Rattle.definition.specs.Memory.{blockOf}
 use Rattle.machine.specs.State.{chunkCount, wide}
 use Rattle.state.specs.Said.{askedIn, lentIn}
-use Rattle.blocks.proofs.Chunk.{square-least, square-most, partial-end, span-of}
+use Rattle.definition.proofs.Places.{square-least, square-most}
+use Rattle.blocks.proofs.Chunk.{partial-end, span-of}
 use Rattle.stages.proofs.Written.{partial-written}
 use Rattle.stages.proofs.output.squares_stage.Statement.{statement}
 use Rattle.stages.proofs.output.squares_stage.Tie as tie

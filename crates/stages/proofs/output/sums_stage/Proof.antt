@@ -5,7 +5,8 @@ use Rattle.definition.specs.Arith.{ieee64}
 use Rattle.definition.specs.Memory.{blockOf}
 use Rattle.machine.specs.State.{chunkCount, wide}
 use Rattle.state.specs.Said.{askedIn, lentIn}
-use Rattle.blocks.proofs.Chunk.{square-least, square-most, partial-end, span-of}
+use Rattle.definition.proofs.Places.{square-least, square-most}
+use Rattle.blocks.proofs.Chunk.{partial-end, span-of}
 use Rattle.stages.proofs.Written.{partial-written}
 use Rattle.stages.proofs.output.sums_stage.Statement.{statement}
 use Rattle.stages.proofs.output.sums_stage.Tie as tie

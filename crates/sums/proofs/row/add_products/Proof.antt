@@ -6,9 +6,9 @@ use lib.ListN.{getD}
 use lib.Ieee.{nan}
 use Rattle.definition.specs.Arith.{ieee64}
 use Rattle.definition.specs.Memory.{rowAt, columnAt}
-use Rattle.definition.proofs.Places.{row-next, row-end}
+use Rattle.definition.proofs.Places.{row-next, row-end, square-most}
 use Rattle.sums.specs.Accumulators.{raised}
-use Rattle.sums.proofs.Partials.{square-most, row-in, column-in, raised-none, raised-next, raised-to}
+use Rattle.sums.proofs.Partials.{row-in, column-in, raised-none, raised-next, raised-to}
 use Rattle.sums.proofs.row.add_products.Statement.{statement}
 use Rattle.sums.proofs.row.add_products.Tie as tie
 
