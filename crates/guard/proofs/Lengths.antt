@@ -1,47 +1,28 @@
 -- The lengths of lent memory: those of the lists at hand are what the caller said, and enough memory is enough of each. Assumes nothing.
-use mathlib.Core.Path.{_≡_, refl, sym, ap, _∙_}
-use mathlib.Core.Bool.{Bool, true, false}
+use mathlib.Core.Path.{_≡_, sym, ap, _∙_}
+use mathlib.Core.Bool.{true}
 use mathlib.Core.List.{List}
 use Prim.Native.Nat.{ℕ, _≤_, _<_}
 use native.Mathlib.Omega.{arith}
-use borrow.Author.Tests.{ltb-false, ltb-true, leb-true}
-use lib.Dec.{eqb, ltb}
-use lib.ListN.{length, getD}
+use borrow.Author.Tests.{ltb-true, leb-true}
+use lib.ListN.{length}
 use Rattle.definition.specs.Arith.{ieee64}
 use Rattle.definition.specs.Memory.{wholesOf}
-use Rattle.definition.specs.Numbers.{lentSizes, lentSize}
-use Rattle.definition.specs.Refusals.{given, passes, firstFrom, testLent}
-use Rattle.definition.proofs.First.{first-all}
+use Rattle.definition.specs.Numbers.{lentSizes}
 use Rattle.machine.specs.State.{Asked, chunkCount, Lists, State, Lent, lengthsOf}
 use Rattle.machine.specs.Ranges.{listsEnough, lentEnough, listsSound}
 use Rattle.machine.proofs.Own.{both-of}
-use Rattle.guard.specs.Rows.{listsTest, ownLengths}
+use Rattle.ready.proofs.Tested.{lent-each}
+use Rattle.guard.specs.Rows.{listsTest, otherLengths, ownLengths}
 
--- ---- the lists' own lengths are those that the caller said
-pub own-same : (m : Lent ieee64) (marks edges l : List ℕ) → m .edgeColumns ≡ edges → lengthsOf ieee64 m marks ≡ l
+-- ---- the lengths at hand are the lists' own
+pub own-same : (m : Lent ieee64) (marks edges l : List ℕ) → m .edgeColumns ≡ edges → otherLengths m ≡ l
     → ownLengths l (length edges) (length marks) ≡ lengthsOf ieee64 m marks
 own-same m marks edges l e h =
     ap (λ (x : List ℕ). ownLengths x (length edges) (length marks)) (sym h)
-    ∙ ap (λ (x : List ℕ). ownLengths (lengthsOf ieee64 m marks) (length x) (length marks)) (sym e)
-
-pub marks-same : (m : Lent ieee64) (marks l : List ℕ) → lengthsOf ieee64 m marks ≡ l
-    → ownLengths l (getD l 2 0) (length marks) ≡ lengthsOf ieee64 m marks
-marks-same m marks l h = ap (λ (x : List ℕ). ownLengths x (getD x 2 0) (length marks)) (sym h)
+    ∙ ap (λ (x : List ℕ). ownLengths (otherLengths m) (length x) (length marks)) (sym e)
 
 -- ---- lists that pass
-no-fault : (b : Bool) (x : ℕ) → eqb (given b 11 x .number) 0 ≡ true → b ≡ false
-no-fault true x h = sym h
-no-fault false x h = refl
-
-lent-each : (a : Asked) (lent : ℕ → ℕ) → passes (testLent (a .dims) (a .rows) (a .entries) lent) ≡ true
-    → (j : ℕ) → j < 10 → lentSize (a .dims) (a .rows) (a .entries) j ≤ lent j
-unfolding testLent
-lent-each a lent h j p =
-    let f : ℕ → Bool = λ i. ltb (lent i) (lentSize (a .dims) (a .rows) (a .entries) i) in
-    let x = firstFrom f 0 10 in
-    ltb-false (lent j) (lentSize (a .dims) (a .rows) (a .entries) j)
-    (first-all f 0 10 j (ltb-false x 10 (no-fault (ltb x 10) x h)) (omega arith) (omega arith))
-
 -- what the tests after it rest on
 pub record Enough (a : Asked) (g : Lists ieee64) (e c : ℕ) : Type 0 where
   pub starts : a .rows < length (g .starts)

@@ -15,15 +15,10 @@ use Rattle.definition.proofs.Fill.{split}
 use Rattle.definition.proofs.Rows.{starts-up}
 use Rattle.machine.specs.State.{Asked}
 use Rattle.machine.specs.Ranges.{noneFrom, startFault, startsSound}
-use Rattle.guard.proofs.Scans.{none-all}
 
 -- a scan's bounds, as the code found them
 pub bounds : (f : ℕ → Bool) {a b e d : ℕ} → a ≡ b → e ≡ d → noneFrom f a e ≡ noneFrom f b d
 bounds f p q = ap₂ (λ (x y : ℕ). noneFrom f x y) p q
-
-or-false : (a b : Bool) → (a || b) ≡ false → (a ≡ false) × (b ≡ false)
-or-false true b h = absurd (false≢true (sym h))
-or-false false b h = (refl, h)
 
 or-either : (a b : Bool) → b ≡ true → (a || b) ≡ true
 or-either true b h = refl
@@ -46,11 +41,6 @@ module _ (entries : ℕ) (starts : List ℕ) (i : ℕ) where
   fault-none h g =
       ap₂ (λ (a b : Bool). a || b) (le-ltb (getD starts (i + 1) 0) (getD starts i 0) h) (le-ltb entries (getD starts (i + 1) 0) g)
 
-  none-fault : startFault entries starts i ≡ false → (getD starts i 0 ≤ getD starts (i + 1) 0) × (getD starts (i + 1) 0 ≤ entries)
-  none-fault h =
-      let g = or-false falls passes-end h in
-      (ltb-false (getD starts (i + 1) 0) (getD starts i 0) (g .0), ltb-false entries (getD starts (i + 1) 0) (g .1))
-
 -- ---- where a chunk's rows begin and end, as the code found them
 module _ (starts : List ℕ) (n h m : ℕ) (s : Starts starts (firstRow n h) (firstRow n (h + 1)) m) where
   pub chunk-ends : {f e : ℕ} → f ≡ firstRow n h → e ≡ firstRow n (h + 1)
@@ -59,23 +49,3 @@ module _ (starts : List ℕ) (n h m : ℕ) (s : Starts starts (firstRow n h) (fi
       let o = first-up n h (h + 1) (omega arith) in
       rw (p, q)
       (o, s .enough, starts-up starts (firstRow n h) (firstRow n (h + 1)) m s (firstRow n h) (firstRow n (h + 1)) (omega arith) o (omega arith), s .within (firstRow n (h + 1)) o (omega arith))
-
--- sound starts, of a chunk that has rows
-module _ (a : Asked) (starts : List ℕ) (h : ℕ) (o : firstRow (a .rows) h < firstRow (a .rows) (h + 1)) (e : startsSound a starts h ≡ true) where
-  sound-row : (i : ℕ) → firstRow (a .rows) h ≤ i → i < firstRow (a .rows) (h + 1)
-      → (getD starts i 0 ≤ getD starts (i + 1) 0) × (getD starts (i + 1) 0 ≤ a .entries)
-  unfolding startsSound
-  sound-row i p q =
-      none-fault (a .entries) starts i
-      (none-all (startFault (a .entries) starts) (firstRow (a .rows) h) (firstRow (a .rows) (h + 1)) i (omega arith) e p q)
-
-  last-row : (i end : ℕ) → end ≡ firstRow (a .rows) (h + 1) → i ≡ end - 1 + 1 → getD starts i 0 ≤ a .entries
-  last-row i end r s = rw s (sound-row (end - 1) (omega arith) (omega arith) .1)
-
-  pub starts-ready : a .rows < length starts → Starts starts (firstRow (a .rows) h) (firstRow (a .rows) (h + 1)) (a .entries)
-  starts-ready l = record {
-    enough = omega (arith, first-most (a .rows) (h + 1));
-    rising = λ i p q. sound-row i p q .0;
-    within = λ i p q.
-        split i (firstRow (a .rows) (h + 1)) (λ t. omega (arith, sound-row i p t)) (λ t. last-row i (firstRow (a .rows) (h + 1)) refl (omega arith));
-  }

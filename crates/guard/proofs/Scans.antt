@@ -1,13 +1,14 @@
 -- Laws of `noneFrom`, for a loop that looks at place after place from a up to e and has come to i. Assumes nothing.
-use mathlib.Core.Path.{_≡_, sym, ap, _∙_}
-use mathlib.Core.Bool.{Bool, true, false}
+use mathlib.Core.Path.{_≡_, refl, sym, ap, _∙_}
+use mathlib.Core.Bool.{Bool, true, false, not, _&&_, false≢true}
 use Prim.Native.Nat.{ℕ, _+_, _-_, _≤_, _<_}
 use native.Mathlib.Omega.{arith}
-use borrow.Author.Tests.{eq-eqb, ne-eqb, eqb-true}
+use borrow.Author.Tests.{eq-eqb, ne-eqb}
 use lib.Dec.{eqb}
-use Rattle.definition.specs.Refusals.{firstFrom}
-use Rattle.definition.proofs.First.{first-here, first-later, first-none, first-all}
+use Rattle.definition.proofs.Fill.{split}
+use Rattle.definition.proofs.First.{first-here, first-later, first-none}
 use Rattle.machine.specs.Ranges.{noneFrom}
+use Rattle.ready.proofs.Tested.{none-at, at-none}
 
 module _ (f : ℕ → Bool) (a e i : ℕ) where
   -- the places passed have no fault
@@ -23,7 +24,26 @@ module _ (f : ℕ → Bool) (a e i : ℕ) where
   unfolding noneFrom
   none-end p s = sym (s ∙ ap (λ (x : ℕ). eqb x e) (first-none f e i (omega arith)) ∙ eq-eqb i e p)
 
-  -- no place has a fault, in what a test without a fault says
-  pub none-all : a ≤ e → noneFrom f a e ≡ true → a ≤ i → i < e → f i ≡ false
-  unfolding noneFrom
-  none-all o h p q = first-all f a (e - a) i (omega (arith, eqb-true (firstFrom f a (e - a)) e h)) p (omega arith)
+-- one place more, for a loop that looks at every place whatever it has found
+pub none-more : (f : ℕ → Bool) (a i : ℕ) → a ≤ i → (noneFrom f a i && not (f i)) ≡ noneFrom f a (i + 1)
+none-more f a i l = by (noneFrom f a i) (f i) refl refl
+  where
+    -- a scan that passes has none below its end
+    shorter : noneFrom f a (i + 1) ≡ true → noneFrom f a i ≡ true
+    shorter h = at-none f a i l (λ j p q. none-at f a (i + 1) (omega arith) h j p (omega arith))
+
+    fails : (noneFrom f a (i + 1) ≡ true → ⊥) → false ≡ noneFrom f a (i + 1)
+    fails n = go (noneFrom f a (i + 1)) refl
+      where
+        go : (b : Bool) → noneFrom f a (i + 1) ≡ b → false ≡ noneFrom f a (i + 1)
+        go true e = absurd (n e)
+        go false e = sym e
+
+    by : (b d : Bool) → noneFrom f a i ≡ b → f i ≡ d → (b && not d) ≡ noneFrom f a (i + 1)
+    by true true p q = fails (λ h. false≢true (sym (none-at f a (i + 1) (omega arith) h i l (omega arith)) ∙ q))
+    by true false p q = sym (at-none f a (i + 1) (omega arith) (λ j u v. split j i (λ s. none-at f a i l p j u s) (λ s. let z : j ≡ i = omega arith in ap f z ∙ q)))
+    by false d p q = fails (λ h. false≢true (sym p ∙ shorter h))
+
+-- no place looked at yet
+pub none-yet : (f : ℕ → Bool) (a : ℕ) → true ≡ noneFrom f a a
+none-yet f a = sym (at-none f a a (omega arith) (λ i p q. absurd (omega arith)))

@@ -10,9 +10,13 @@ use Rattle.machine.specs.State.{Asked}
 use Rattle.machine.specs.Ranges.{startsSound, columnsSound}
 use Rattle.guard.specs.Rows.{rowsTest}
 
-and-true : (a : Bool) → (a && true) ≡ a
+pub and-true : (a : Bool) → (a && true) ≡ a
 and-true true = refl
 and-true false = refl
+
+pub and-false : (a : Bool) → (a && false) ≡ false
+and-false true = refl
+and-false false = refl
 
 module _ (a : Asked) (starts columns edgeColumns : List ℕ) (h : ℕ) {st : ℕ} where
   -- the degrees

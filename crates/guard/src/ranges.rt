@@ -8,6 +8,7 @@ ghost use Rattle.machine.specs.State.{lastStage};
 ghost use Rattle.machine.specs.Ranges.{askedSound, boundSound, alphaSound, progressSound, countsSound, orderSound, stateSound};
 ghost use Rattle.machine.specs.Ready.{AskedReady};
 ghost use Rattle.state.specs.Said.{askedIn, progressIn, countsIn, stateIn};
+ghost use Rattle.guard.specs.Rows.{fieldsSound};
 use input::SpectralParams;
 use state::Asked;
 use state::Counts;
@@ -105,6 +106,13 @@ fn order_sound(a: Asked, order: [usize; 15]) -> bool
     true
 }
 
+// The fields of a state that have a range. A test of a call gets these alone, so that the state's large arrays are not copied for it.
+pub fn fields_sound(a: Asked, p: Progress, counts: Counts, order: [usize; 15]) -> bool
+    ensures { λ r. ⌜ r ≡ fieldsSound (askedIn a) (progressIn p) (countsIn counts) order ⌝ }
+{
+    asked_sound(a) && (progress_sound(a, p) && (counts_sound(a, counts) && order_sound(a, order)))
+}
+
 pub fn state_sound(state: State) -> bool
     ensures { λ r. ⌜ r ≡ stateSound ieee64 (stateIn state) ⌝ }
 {
@@ -112,5 +120,5 @@ pub fn state_sound(state: State) -> bool
     let p = state.progress;
     let counts = state.counts;
     let order = state.order;
-    asked_sound(a) && (progress_sound(a, p) && (counts_sound(a, counts) && order_sound(a, order)))
+    fields_sound(a, p, counts, order)
 }

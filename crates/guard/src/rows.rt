@@ -1,7 +1,9 @@
 // What a call needs of the graph's lists and of lent memory: their lengths, and for a chunk that it names the starts, the
 // columns and the mark of that chunk, where the stage reads them.
 ghost use mathlib.Core.Path.{_≡_};
+ghost use mathlib.Core.Bool.{not, _&&_};
 ghost use Prim.Native.Nat.{_+_, _≤_, _<_};
+ghost use lib.Dec.{leb};
 ghost use lib.ListN.{length};
 ghost use Rattle.definition.specs.Arith.{ieee64};
 ghost use Rattle.definition.specs.Numbers.{firstRow};
@@ -34,8 +36,20 @@ pub fn starts_sound(a: Asked, h: usize, starts: &[u64]) -> bool
     true
 }
 
-// The columns of chunk h's entries are below n.
+// Whether one column more is below the limit too.
+fn still_below(sound: bool, column: u32, limit: u32) -> bool
+    ensures { λ r. ⌜ r ≡ (sound && not (leb limit column)) ⌝ }
+{
+    if limit <= column {
+        return false;
+    }
+    sound
+}
+
+// The columns of chunk h's entries are below n. It looks at all of them, whatever it has found: a loop with one way out is compiled for
+// several columns at a time.
 pub fn columns_sound(a: Asked, h: usize, starts: &[u64], columns: &[u32]) -> bool
+    requires { ⌜ AskedReady (askedIn a) ⌝ }
     requires { ⌜ Starts (now starts) (firstRow (a .rows) h) (firstRow (a .rows) (h + 1)) (a .entries) ⌝ }
     requires { ⌜ a .entries ≤ length (now columns) ⌝ }
     ensures { λ r. ⌜ r ≡ columnsSound (askedIn a) (now (starts .entry)) (now (columns .entry)) h ⌝ }
@@ -44,15 +58,14 @@ pub fn columns_sound(a: Asked, h: usize, starts: &[u64], columns: &[u32]) -> boo
     let first = input::first_row(n, h);
     let last = input::end_row(n, h);
     let end = starts[last] as usize;
+    let limit = n as u32;
+    let mut sound = true;
     let mut p = starts[first] as usize;
     while p < end {
-        let column = columns[p] as usize;
-        if n <= column {
-            return false;
-        }
+        sound = still_below(sound, columns[p], limit);
         p += 1;
     }
-    true
+    sound
 }
 
 // The starts of the chunk where this stage reads them, and the columns of its entries: the graph's as the edges are made, the
@@ -83,21 +96,21 @@ fn lists_enough(a: Asked, starts: &[u64], columns: &[u32], values: &[f64]) -> bo
     a.rows < starts.len() && (a.entries <= columns.len() && a.entries <= values.len())
 }
 
-// Lengths of lent memory, but for the lists at hand: those of the edge columns and of the marks are their own.
-pub fn own_lengths(lengths: [usize; 10], edge_columns: usize, marks: usize) -> [usize; 10]
+// The lengths of lent memory 0 to 9, from those of the lists that a test does not get, and those of the two that it gets.
+pub fn own_lengths(lengths: [usize; 8], edge_columns: usize, marks: usize) -> [usize; 10]
     ensures { λ r. ⌜ r ≡ ownLengths lengths «edge_columns» marks ⌝ }
 {
     [
         lengths[0],
         lengths[1],
         edge_columns,
+        lengths[2],
         lengths[3],
         lengths[4],
         lengths[5],
         lengths[6],
-        lengths[7],
         marks,
-        lengths[9],
+        lengths[7],
     ]
 }
 

@@ -5,12 +5,12 @@ ghost use lib.ListN.{length};
 ghost use Rattle.definition.specs.Arith.{ieee64};
 ghost use Rattle.definition.specs.Refusals as refusals;
 ghost use Rattle.input.specs.Said.{verdictOf};
-ghost use Rattle.machine.specs.State.{Lent, lengthsOf};
+ghost use Rattle.machine.specs.State.{Lent};
 ghost use Rattle.machine.specs.Ranges.{testChunk, testClose};
 ghost use Rattle.state.specs.Said.{askedIn, stateIn, listsIn};
-ghost use Rattle.guard.specs.Rows.{ChunkLists, ownTest};
+ghost use Rattle.guard.specs.Rows.{ChunkLists, ownTest, otherLengths};
+use crate::ranges::fields_sound;
 use crate::ranges::is_open;
-use crate::ranges::state_sound;
 use crate::rows::lists_sound;
 use crate::rows::own_lengths;
 use crate::rows::rows_sound;
@@ -56,7 +56,8 @@ fn test_own(
     refused(0, 0)
 }
 
-// Whether the chunk `number` may be worked on now. The lengths are those of the ten lent lists in document 01's order.
+// Whether the chunk `number` may be worked on now. The lengths are those of the other lent lists, in document 01's order: all but the edge
+// columns and the marks.
 pub fn test_chunk(
     state: State,
     number: usize,
@@ -65,14 +66,16 @@ pub fn test_chunk(
     values: &[f64],
     edge_columns: &[u32],
     marks: &[u8],
-    lengths: [usize; 10],
+    lengths: [usize; 8],
 ) -> Verdict
-    ensures { λ r. ⌜ ((m : Lent ieee64) → m .edgeColumns ≡ now («edge_columns» .entry) → lengthsOf ieee64 m (now (marks .entry)) ≡ lengths → verdictOf r ≡ testChunk ieee64 (stateIn state) number (listsIn (now (starts .entry)) (now (columns .entry)) (now (values .entry))) m (now (marks .entry))) ⌝ }
+    ensures { λ r. ⌜ ((m : Lent ieee64) → m .edgeColumns ≡ now («edge_columns» .entry) → otherLengths m ≡ lengths → verdictOf r ≡ testChunk ieee64 (stateIn state) number (listsIn (now (starts .entry)) (now (columns .entry)) (now (values .entry))) m (now (marks .entry))) ⌝ }
 {
     let a = state.asked;
     let p = state.progress;
+    let counts = state.counts;
+    let order = state.order;
     let stage = p.stage;
-    if !state_sound(state) {
+    if !fields_sound(a, p, counts, order) {
         return refused(16, 0);
     }
     if !is_open(stage) {
@@ -88,27 +91,30 @@ pub fn test_chunk(
     test_own(stage, a, number, starts, columns, edge_columns, marks)
 }
 
-// Whether the stage may be closed now. The lengths are those of the ten lent lists in document 01's order.
+// Whether the stage may be closed now. The lengths are those of the other lent lists, as for a chunk.
 pub fn test_close(
     state: State,
     starts: &[u64],
     columns: &[u32],
     values: &[f64],
+    edge_columns: &[u32],
     marks: &[u8],
-    lengths: [usize; 10],
+    lengths: [usize; 8],
 ) -> Verdict
-    ensures { λ r. ⌜ ((m : Lent ieee64) → lengthsOf ieee64 m (now (marks .entry)) ≡ lengths → verdictOf r ≡ testClose ieee64 (stateIn state) (listsIn (now (starts .entry)) (now (columns .entry)) (now (values .entry))) m (now (marks .entry))) ⌝ }
+    ensures { λ r. ⌜ ((m : Lent ieee64) → m .edgeColumns ≡ now («edge_columns» .entry) → otherLengths m ≡ lengths → verdictOf r ≡ testClose ieee64 (stateIn state) (listsIn (now (starts .entry)) (now (columns .entry)) (now (values .entry))) m (now (marks .entry))) ⌝ }
 {
     let a = state.asked;
     let p = state.progress;
+    let counts = state.counts;
+    let order = state.order;
     let stage = p.stage;
-    if !state_sound(state) {
+    if !fields_sound(a, p, counts, order) {
         return refused(16, 0);
     }
     if !is_open(stage) {
         return refused(15, 0);
     }
-    let own = own_lengths(lengths, lengths[2], marks.len());
+    let own = own_lengths(lengths, edge_columns.len(), marks.len());
     if !lists_sound(a, starts, columns, values, own) {
         return refused(16, 0);
     }

@@ -88,13 +88,11 @@ pub fn chunk(
     let lengths = [
         inverse.len(),
         v0.len(),
-        edge_columns.len(),
         edge_weights.len(),
         block0.len(),
         block1.len(),
         block2.len(),
         partials.len(),
-        marks.len(),
         output.len(),
     ];
     let verdict = guard::test_chunk(

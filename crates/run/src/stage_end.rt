@@ -56,16 +56,22 @@ pub fn close(
     let lengths = [
         inverse.len(),
         v0.len(),
-        edge_columns.len(),
         edge_weights.len(),
         block0.len(),
         block1.len(),
         block2.len(),
         partials.len(),
-        marks.len(),
         output.len(),
     ];
-    let verdict = guard::test_close(state, starts, columns, values, &marks[..], lengths);
+    let verdict = guard::test_close(
+        state,
+        starts,
+        columns,
+        values,
+        edge_columns,
+        &marks[..],
+        lengths,
+    );
     if verdict.number != 0 {
         return Answer { verdict, state };
     }

@@ -1,9 +1,8 @@
 -- `rows::rows_sound` meets its contract: each stage tests the rows that it reads. Assumes nothing.
 use mathlib.Core.Path.{sym, _∙_}
-use Rattle.definition.proofs.Chunks.{chunk-some}
+use Rattle.ready.proofs.Tested.{starts-ready}
 use Rattle.state.specs.Said.{askedIn}
 use Rattle.guard.proofs.Chains.{failed, passed}
-use Rattle.guard.proofs.RowLaws.{starts-ready}
 use Rattle.guard.proofs.Stages.{tests-starts, tests-columns, tests-edges, tests-none}
 use borrow.Author.Needs.{needs}
 use Rattle.guard.proofs.rows.rows_sound.Statement.{statement}
@@ -19,7 +18,7 @@ columns-sound-requires : tie.Need-columns-sound-requires
 columns-sound-requires c κs =
     let s = c .before .before .before .before .before .before in
     let g = s .args in
-    (starts-ready (askedIn (g .a)) (g .starts .now) (g .h) (chunk-some (g .a .rows) (g .h) (s .pre .chunk)) (sym (c .before .starts-sound2 .ensures) ∙ c .if1 .taken) (s .pre .starts-enough), s .pre .columns-enough)
+    (s .pre .asked, (starts-ready (askedIn (g .a)) (g .starts .now) (g .h) (s .pre .starts-enough) (sym (c .before .starts-sound2 .ensures) ∙ c .if1 .taken) (s .pre .chunk), s .pre .columns-enough))
 
 starts-sound-requires-3 : tie.Need-starts-sound-requires-3
 starts-sound-requires-3 c κs = search needs
@@ -28,7 +27,7 @@ columns-sound-requires-2 : tie.Need-columns-sound-requires-2
 columns-sound-requires-2 c κs =
     let s = c .before .before .before .before .before .before in
     let g = s .args in
-    (starts-ready (askedIn (g .a)) (g .starts .now) (g .h) (chunk-some (g .a .rows) (g .h) (s .pre .chunk)) (sym (c .before .starts-sound3 .ensures) ∙ c .if2 .taken) (s .pre .starts-enough), s .pre .edge-columns-enough)
+    (s .pre .asked, (starts-ready (askedIn (g .a)) (g .starts .now) (g .h) (s .pre .starts-enough) (sym (c .before .starts-sound3 .ensures) ∙ c .if2 .taken) (s .pre .chunk), s .pre .edge-columns-enough))
 
 returns : tie.Need-returns
 returns c = c .starts-sound .ensures ∙ tests-starts _ _ _ _ _ (c .before .match .keys1)

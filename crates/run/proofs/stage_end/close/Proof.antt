@@ -28,7 +28,7 @@ lent s =
 -- what the code found is the machine's test
 found : (t : tie.After-test-close) → let s = entered t in
     verdictOf (t .test-close .result) ≡ testClose ieee64 (stateIn (s .args .state)) (graph s) (lent s) (s .args .marks .now)
-found t = t .test-close .ensures (lent (entered t)) refl
+found t = t .test-close .ensures (lent (entered t)) refl refl
 
 test-close-requires : tie.Need-test-close-requires
 test-close-requires c κs = search needs
