@@ -7,3 +7,4 @@ pub mod Stages
 pub mod Lengths
 pub mod Verdicts
 pub mod Owed
+pub mod Determined
