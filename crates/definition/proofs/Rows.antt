@@ -10,16 +10,20 @@ use Rattle.definition.specs.Memory.{rowHolding, wholesOf}
 use Rattle.definition.specs.Requirements.{Starts}
 use Rattle.definition.proofs.Fill.{split}
 
-module _ (starts : List ℕ) (first end m : ℕ) (h : Starts starts first end m) where
+-- starts that do not fall from one row to the next: a later one is no lower
+module _ (starts : List ℕ) (first end : ℕ) (rising : (i : ℕ) → first ≤ i → i < end → getD starts i 0 ≤ getD starts (i + 1) 0) where
   climb : (i d : ℕ) → first ≤ i → i + d ≤ end → getD starts i 0 ≤ getD starts (i + d) 0
   climb i zero p q = let e : i + 0 ≡ i = omega arith in rw e (omega arith)
   climb i (suc d) p q =
       let e : i + suc d ≡ i + d + 1 = omega arith in
-      rw e (omega (arith, climb i d p (omega arith), h .rising (i + d) (omega arith) (omega arith)))
+      rw e (omega (arith, climb i d p (omega arith), rising (i + d) (omega arith) (omega arith)))
 
-  -- a later start is no lower
+  pub rising-up : (i j : ℕ) → first ≤ i → i ≤ j → j ≤ end → getD starts i 0 ≤ getD starts j 0
+  rising-up i j p q r = let e : i + (j - i) ≡ j = omega arith in (rw e at (climb i (j - i) p (omega arith)))
+
+module _ (starts : List ℕ) (first end m : ℕ) (h : Starts starts first end m) where
   pub starts-up : (i j : ℕ) → first ≤ i → i ≤ j → j ≤ end → getD starts i 0 ≤ getD starts j 0
-  starts-up i j p q r = let e : i + (j - i) ≡ j = omega arith in (rw e at (climb i (j - i) p (omega arith)))
+  starts-up = rising-up starts first end (h .rising)
 
   -- the row that has an entry is the one that `rowHolding` finds
   pub row-holding : (r i p : ℕ) → first ≤ i → i < first + r → first + r ≤ end → getD starts i 0 ≤ p → p < getD starts (i + 1) 0

@@ -1,20 +1,20 @@
--- Laws of a chunk's rows: when a start has a fault, and what sound starts say. Assumes nothing.
-use mathlib.Core.Path.{_≡_, refl, sym, ap, ap₂}
-use mathlib.Core.Bool.{Bool, true, false, _||_, false≢true}
+-- Laws of a chunk's rows: when a start has a fault, and when none has; columns past the last one allowed. Assumes nothing.
+use mathlib.Core.Path.{_≡_, refl, sym, ap, ap₂, _∙_}
+use mathlib.Core.Bool.{Bool, true, false, _||_}
 use mathlib.Core.List.{List}
-use Prim.Native.Nat.{ℕ, _+_, _-_, _≤_, _<_}
+use Prim.Native.Nat.{ℕ, suc, _+_, _-_, _≤_, _<_}
 use native.Mathlib.Omega.{arith}
-use borrow.Author.Tests.{lt-ltb, le-ltb, ltb-false}
-use lib.Dec.{ltb}
+use borrow.Author.Tests.{lt-ltb, le-ltb, le-leb, lt-leb}
+use lib.Dec.{leb, ltb}
 use lib.ListN.{length, getD}
-use Rattle.definition.specs.Arith.{ieee64}
 use Rattle.definition.specs.Numbers.{firstRow}
 use Rattle.definition.specs.Requirements.{Starts}
-use Rattle.definition.proofs.Chunks.{first-most, first-up}
+use Rattle.definition.proofs.Chunks.{first-up}
 use Rattle.definition.proofs.Fill.{split}
-use Rattle.definition.proofs.Rows.{starts-up}
-use Rattle.machine.specs.State.{Asked}
-use Rattle.machine.specs.Ranges.{noneFrom, startFault, startsSound}
+use Rattle.definition.proofs.Rows.{rising-up, starts-up}
+use Rattle.machine.specs.Ranges.{noneFrom, startFault}
+use Rattle.ready.proofs.Tested.{at-none}
+use Rattle.guard.proofs.Scans.{found-at}
 
 -- a scan's bounds, as the code found them
 pub bounds : (f : ℕ → Bool) {a b e d : ℕ} → a ≡ b → e ≡ d → noneFrom f a e ≡ noneFrom f b d
@@ -40,6 +40,23 @@ module _ (entries : ℕ) (starts : List ℕ) (i : ℕ) where
   pub fault-none : getD starts i 0 ≤ getD starts (i + 1) 0 → getD starts (i + 1) 0 ≤ entries → startFault entries starts i ≡ false
   fault-none h g =
       ap₂ (λ (a b : Bool). a || b) (le-ltb (getD starts (i + 1) 0) (getD starts i 0) h) (le-ltb entries (getD starts (i + 1) 0) g)
+
+-- starts that do not fall: the last one decides
+pub rising-sound : (entries : ℕ) (starts : List ℕ) (first end : ℕ) → first < end
+    → ((i : ℕ) → first ≤ i → i < end → getD starts i 0 ≤ getD starts (i + 1) 0) → leb (getD starts end 0) entries ≡ noneFrom (startFault entries starts) first end
+rising-sound entries starts first end l r =
+    split (getD starts end 0) (suc entries)
+    (λ s. le-leb (getD starts end 0) entries (omega arith)
+    ∙ sym (at-none (startFault entries starts) first end (omega arith)
+    (λ i p q. fault-none entries starts i (r i p q) (omega (arith, rising-up starts first end r (i + 1) end (omega arith) (omega arith) (omega arith))))))
+    (λ s. let z : end - 1 + 1 ≡ end = omega arith in
+    lt-leb (getD starts end 0) entries (omega arith)
+    ∙ sym (found-at (startFault entries starts) first end (end - 1) (omega arith) (omega arith)
+    (fault-past entries starts (end - 1) (omega (arith, ap (λ (j : ℕ). getD starts j 0) z)))))
+
+-- past the last column allowed is not below n
+pub past-high : (n c : ℕ) → 1 ≤ n → ltb (n - 1) c ≡ leb n c
+past-high n c l = split (n - 1) c (λ s. lt-ltb (n - 1) c s ∙ sym (le-leb n c (omega arith))) (λ s. le-ltb (n - 1) c s ∙ sym (lt-leb n c (omega arith)))
 
 -- ---- where a chunk's rows begin and end, as the code found them
 module _ (starts : List ℕ) (n h m : ℕ) (s : Starts starts (firstRow n h) (firstRow n (h + 1)) m) where

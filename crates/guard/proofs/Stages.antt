@@ -1,7 +1,7 @@
 -- Which of a chunk's rows each stage tests. Assumes nothing.
 use mathlib.Core.Path.{_≡_, refl, sym, ap}
 use mathlib.Core.Logic.{_⊎_, inl, inr, ⊎-elim}
-use mathlib.Core.Bool.{Bool, true, false, _&&_}
+use mathlib.Core.Bool.{Bool, true, false, not, _&&_, _||_}
 use mathlib.Core.List.{List}
 use Prim.Native.Nat.{ℕ}
 use borrow.Author.Tests.{ne-eqb}
@@ -10,13 +10,21 @@ use Rattle.machine.specs.State.{Asked}
 use Rattle.machine.specs.Ranges.{startsSound, columnsSound}
 use Rattle.guard.specs.Rows.{rowsTest}
 
-pub and-true : (a : Bool) → (a && true) ≡ a
+and-true : (a : Bool) → (a && true) ≡ a
 and-true true = refl
 and-true false = refl
 
-pub and-false : (a : Bool) → (a && false) ≡ false
-and-false true = refl
-and-false false = refl
+pub not-not : (a : Bool) → not (not a) ≡ a
+not-not true = refl
+not-not false = refl
+
+pub or-true : (a : Bool) → (a || true) ≡ true
+or-true true = refl
+or-true false = refl
+
+pub or-false : (a : Bool) → (a || false) ≡ a
+or-false true = refl
+or-false false = refl
 
 module _ (a : Asked) (starts columns edgeColumns : List ℕ) (h : ℕ) {st : ℕ} where
   -- the degrees

@@ -1,21 +1,24 @@
 // What a call needs of the graph's lists and of lent memory: their lengths, and for a chunk that it names the starts, the
 // columns and the mark of that chunk, where the stage reads them.
 ghost use mathlib.Core.Path.{_≡_};
-ghost use mathlib.Core.Bool.{not, _&&_};
+ghost use mathlib.Core.Bool.{_||_};
 ghost use Prim.Native.Nat.{_+_, _≤_, _<_};
-ghost use lib.Dec.{leb};
+ghost use lib.Dec.{ltb};
 ghost use lib.ListN.{length};
 ghost use Rattle.definition.specs.Arith.{ieee64};
 ghost use Rattle.definition.specs.Numbers.{firstRow};
 ghost use Rattle.definition.specs.Requirements.{Starts};
+ghost use Rattle.machine.specs.State.{chunkCount};
 ghost use Rattle.machine.specs.Ranges.{startsSound, columnsSound, listsEnough};
 ghost use Rattle.machine.specs.Ready.{AskedReady};
 ghost use Rattle.state.specs.Said.{askedIn, listsIn};
 ghost use Rattle.guard.specs.Rows.{ChunkLists, rowsTest, listsTest, ownLengths};
 use state::Asked;
 
-// No row of chunk h starts above the next one, and none of its entries lies past the entry count.
+// No row of chunk h starts above the next one, and none of its entries lies past the entry count. Where no start falls the last one is
+// the highest, so that it alone is held to the count.
 pub fn starts_sound(a: Asked, h: usize, starts: &[u64]) -> bool
+    requires { ⌜ h < chunkCount (askedIn a) ⌝ }
     requires { ⌜ a .rows < length (now starts) ⌝ }
     ensures { λ r. ⌜ r ≡ startsSound (askedIn a) (now (starts .entry)) h ⌝ }
 {
@@ -24,26 +27,22 @@ pub fn starts_sound(a: Asked, h: usize, starts: &[u64]) -> bool
     let end = input::end_row(n, h);
     let mut i = input::first_row(n, h);
     while i < end {
-        let next = starts[i + 1];
-        if next < starts[i] {
-            return false;
-        }
-        if entries < next {
+        if starts[i + 1] < starts[i] {
             return false;
         }
         i += 1;
     }
-    true
+    starts[end] <= entries
 }
 
-// Whether one column more is below the limit too.
-fn still_below(sound: bool, column: u32, limit: u32) -> bool
-    ensures { λ r. ⌜ r ≡ (sound && not (leb limit column)) ⌝ }
+// Whether a column past the last allowed one was found, with one more looked at.
+fn or_past(found: bool, column: u32, last: u32) -> bool
+    ensures { λ r. ⌜ r ≡ (found || ltb last column) ⌝ }
 {
-    if limit <= column {
-        return false;
+    if last < column {
+        return true;
     }
-    sound
+    found
 }
 
 // The columns of chunk h's entries are below n. It looks at all of them, whatever it has found: a loop with one way out is compiled for
@@ -55,17 +54,17 @@ pub fn columns_sound(a: Asked, h: usize, starts: &[u64], columns: &[u32]) -> boo
     ensures { λ r. ⌜ r ≡ columnsSound (askedIn a) (now (starts .entry)) (now (columns .entry)) h ⌝ }
 {
     let n = a.rows;
-    let first = input::first_row(n, h);
-    let last = input::end_row(n, h);
-    let end = starts[last] as usize;
-    let limit = n as u32;
-    let mut sound = true;
-    let mut p = starts[first] as usize;
+    let first_row = input::first_row(n, h);
+    let end_row = input::end_row(n, h);
+    let end = starts[end_row] as usize;
+    let last = (n - 1) as u32;
+    let mut found = false;
+    let mut p = starts[first_row] as usize;
     while p < end {
-        sound = still_below(sound, columns[p], limit);
+        found = or_past(found, columns[p], last);
         p += 1;
     }
-    sound
+    !found
 }
 
 // The starts of the chunk where this stage reads them, and the columns of its entries: the graph's as the edges are made, the

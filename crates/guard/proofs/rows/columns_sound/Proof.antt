@@ -1,24 +1,23 @@
 -- `rows::columns_sound` meets its contract. The invariant: the flag says whether an entry before p has a high column. Assumes nothing.
-use mathlib.Core.Path.{_≡_, refl, sym, ap, _∙_}
-use mathlib.Core.Bool.{Bool, not, _&&_}
+use mathlib.Core.Path.{_≡_, ap, ap₂, _∙_}
+use mathlib.Core.Bool.{Bool, not, _||_}
 use Prim.Native.Nat.{ℕ, _-_, _≤_}
 use native.Mathlib.Omega.{arith}
 use borrow.Author.Needs.{needs}
-use lib.Dec.{leb}
+use lib.Dec.{leb, ltb}
 use lib.ListN.{length, getD}
 use Rattle.machine.specs.Ranges.{noneFrom, columnsSound}
-use Rattle.guard.proofs.RowLaws.{bounds, chunk-ends}
-use Rattle.guard.proofs.Scans.{none-yet, none-more}
+use Rattle.guard.proofs.Stages.{not-not}
+use Rattle.guard.proofs.RowLaws.{bounds, past-high, chunk-ends}
+use Rattle.guard.proofs.Scans.{found-none, found-more}
 use Rattle.guard.proofs.rows.columns_sound.Statement.{statement}
 use Rattle.guard.proofs.rows.columns_sound.Tie as tie
-use Rattle.guard.proofs.rows.columns_sound.Reads as reads
-use Rattle.guard.proofs.rows.columns_sound.Lts as lts
 
 abbrev Inv-loop : tie.InvT-loop
-Inv-loop h starts columns n first last end limit sound₀ p₀ sound p = (p₀ ≤ p) × (p ≤ end) × (end ≤ length columns) × (sound ≡ noneFrom (λ q. leb n (getD columns q 0)) p₀ p)
+Inv-loop h starts columns n first-row end-row end last found₀ p₀ found p = (p₀ ≤ p) × (p ≤ end) × (end ≤ length columns) × (found ≡ not (noneFrom (λ q. leb n (getD columns q 0)) p₀ p))
 
 abbrev μ-loop : tie.MeasureT-loop
-μ-loop h starts columns n first last end limit sound₀ p₀ sound p = end - p
+μ-loop h starts columns n first-row end-row end last found₀ p₀ found p = end - p
 
 first-row-requires : tie.Need-first-row-requires Inv-loop μ-loop
 first-row-requires c κs = search needs
@@ -32,8 +31,11 @@ mul-end c = let s = chunk-ends _ _ _ _ (c .before .before .before .before .pre .
 shared-slice-read-end : tie.Need-shared-slice-read-end Inv-loop μ-loop
 shared-slice-read-end c = let s = chunk-ends _ _ _ _ (c .before .before .before .before .before .pre .1 .0) (c .before .before .first-row .ensures) (c .before .end-row .ensures) in omega arith
 
-cast-limit : tie.Need-cast-limit Inv-loop μ-loop
-cast-limit c = omega (arith, c .before .before .before .before .before .pre .0 .rows-most)
+sub-last : tie.Need-sub-last Inv-loop μ-loop
+sub-last c = omega (arith, c .before .before .before .before .before .pre .0 .rows-least)
+
+cast-last : tie.Need-cast-last Inv-loop μ-loop
+cast-last c = omega (arith, c .before .before .before .before .before .pre .0 .rows-most)
 
 mul-p : tie.Need-mul-p Inv-loop μ-loop
 mul-p c = let s = chunk-ends _ _ _ _ (c .before .before .before .before .before .pre .1 .0) (c .before .before .first-row .ensures) (c .before .end-row .ensures) in omega arith
@@ -44,16 +46,16 @@ shared-slice-read-p c = let s = chunk-ends _ _ _ _ (c .before .before .before .b
 loop-holds : tie.Need-loop-holds Inv-loop μ-loop
 loop-holds c =
     let s = chunk-ends _ _ _ _ (c .before .before .before .before .before .before .pre .1 .0) (c .before .before .before .first-row .ensures) (c .before .before .end-row .ensures) in
-    (omega arith, omega arith, omega arith, none-yet _ _)
+    (omega arith, omega arith, omega arith, found-none _ _)
 
-mul-still-below : tie.Need-mul-still-below Inv-loop μ-loop
-mul-still-below c = omega arith
+mul-or-past : tie.Need-mul-or-past Inv-loop μ-loop
+mul-or-past c = omega arith
 
-shared-slice-read-still-below : tie.Need-shared-slice-read-still-below Inv-loop μ-loop
-shared-slice-read-still-below c = omega arith
+shared-slice-read-or-past : tie.Need-shared-slice-read-or-past Inv-loop μ-loop
+shared-slice-read-or-past c = omega arith
 
-still-below-requires : tie.Need-still-below-requires Inv-loop μ-loop
-still-below-requires c κs = search needs
+or-past-requires : tie.Need-or-past-requires Inv-loop μ-loop
+or-past-requires c κs = search needs
 
 add-p : tie.Need-add-p Inv-loop μ-loop
 add-p c = omega arith
@@ -64,9 +66,10 @@ loop-less c = omega arith
 loop-again : tie.Need-loop-again Inv-loop μ-loop
 loop-again c =
     let l = c .before .before .before in
-    let a = l .before .before .before .before .before .before .before .args in
-    let high : ℕ → Bool = λ q. leb (a .a .rows) (getD (a .columns .now) q 0) in
-    (omega arith, omega arith, omega arith, c .still-below .ensures ∙ ap (λ (b : Bool). b && not (high (l .loop .p))) (l .loop .inv .3) ∙ none-more high _ (l .loop .p) (omega arith))
+    let s = l .before .before .before .before .before .before .before in
+    let high : ℕ → Bool = λ q. leb (s .args .a .rows) (getD (s .args .columns .now) q 0) in
+    let one : ltb (s .args .a .rows - 1) (getD (s .args .columns .now) (l .loop .p) 0) ≡ high (l .loop .p) = past-high (s .args .a .rows) _ (s .pre .0 .rows-least) in
+    (omega arith, omega arith, omega arith, c .or-past .ensures ∙ ap₂ (λ (x y : Bool). x || y) (l .loop .inv .3) one ∙ found-more high _ (l .loop .p) (omega arith))
 
 returns : tie.Need-returns Inv-loop μ-loop
 unfolding columnsSound
@@ -75,7 +78,8 @@ returns c =
     let e = l .before .before .before in
     let starts = e .before .before .before .before .args .starts .now in
     let at-end : l .loop .p ≡ getD starts (e .end-row .result) 0 = omega arith in
-    l .loop .inv .3
+    ap not (l .loop .inv .3)
+    ∙ not-not _
     ∙ bounds _ (ap (λ (i : ℕ). getD starts i 0) (e .before .first-row .ensures)) (at-end ∙ ap (λ (i : ℕ). getD starts i 0) (e .end-row .ensures))
 
 pub columns-sound-spec : {M : Type 1} → statement M
@@ -88,13 +92,14 @@ columns-sound-spec =
     end-row-requires
     mul-end
     shared-slice-read-end
-    cast-limit
+    sub-last
+    cast-last
     mul-p
     shared-slice-read-p
     loop-holds
-    mul-still-below
-    shared-slice-read-still-below
-    still-below-requires
+    mul-or-past
+    shared-slice-read-or-past
+    or-past-requires
     add-p
     loop-less
     loop-again
