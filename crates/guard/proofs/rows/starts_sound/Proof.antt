@@ -64,9 +64,14 @@ loop-less c = omega arith
 loop-again : tie.Need-loop-again Inv-loop μ-loop
 loop-again c =
     let l = c .before .before .before .before in
-    let starts = l .before .before .before .before .args .starts .now in
-    (omega arith, omega arith, omega arith, omega arith, λ j p q. split j (l .loop .i) (λ t. l .loop .inv .4 j p t)
-    (λ t. let z : l .loop .i ≡ j = omega arith in subst (λ (x : ℕ). getD starts x 0 ≤ getD starts (x + 1) 0) z (c .if1 .left)))
+    let starts = l .before .before .before .before .args .starts .now in (
+      omega arith,
+      omega arith,
+      omega arith,
+      omega arith,
+      λ j p q. split j (l .loop .i) (λ t. l .loop .inv .4 j p t)
+          (λ t. let z : l .loop .i ≡ j = omega arith in subst (λ (x : ℕ). getD starts x 0 ≤ getD starts (x + 1) 0) z (c .if1 .left)),
+    )
 
 mul-result : tie.Need-mul-result Inv-loop μ-loop
 mul-result c = omega arith
