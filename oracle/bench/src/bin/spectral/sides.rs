@@ -63,12 +63,13 @@ fn same_seeds(a: &[f64], b: &[f64]) -> bool {
     a.len() == b.len() && a.iter().zip(b).all(|(&x, &y)| same(x, y))
 }
 
-/// Least times of the one call, the Rust on one thread, the held run on threads and the Rust on as many; and what else was seen.
+/// Least times of the one call, the Rust on one thread, the held run on threads, the Rust on as many and the held run on one thread; and what
+/// else was seen.
 pub struct Whole {
     pub rows: usize,
     pub d: usize,
     pub entries: usize,
-    pub least: [f64; 4],
+    pub least: [f64; 5],
     pub runs: usize,
     pub same: bool,
     /// Promise 2 holds, or nobody asked, as the seeds are the same.
@@ -83,7 +84,7 @@ pub fn whole(graph: &Graph, threads: usize, limit: f64) -> Result<Whole, String>
         rows: graph.rows(),
         d,
         entries: graph.entries(),
-        least: [f64::INFINITY; 4],
+        least: [f64::INFINITY; 5],
         runs: 0,
         same: true,
         promised: true,
@@ -94,7 +95,8 @@ pub fn whole(graph: &Graph, threads: usize, limit: f64) -> Result<Whole, String>
     while seen.runs < LEAST_RUNS || seen.runs < MOST_RUNS && begun.elapsed().as_secs_f64() < limit {
         // What the Rust allocates is counted in the first turn, which costs it a little there.
         let (alone, peak) = rust_counted(graph, 1, seen.runs == 0)?;
-        let turn = [one_call(graph)?, alone, on_threads(graph, threads)?, rust(graph, threads)?];
+        let (many, rayon) = (on_threads(graph, threads)?, rust(graph, threads)?);
+        let turn = [one_call(graph)?, alone, many, rayon, on_threads(graph, 1)?];
         for (least, (seed, time)) in seen.least.iter_mut().zip(&turn) {
             *least = least.min(*time);
             seen.same &= same_seeds(seed, &turn[1].0);

@@ -35,14 +35,28 @@ impl Tables {
     }
 
     pub fn wholes_begin(&self, threads: usize) {
-        println!("goal: at most 0.90 of the Rust's time on one thread, at most 1.00 on two");
+        println!(
+            "goal: at most 0.90 of the Rust's time on one thread, at most 1.00 on two; the held run on one thread at most 1.05 of the one call"
+        );
         println!();
         println!(
-            "                  one call, 1 thread (ms)      held run, {threads} threads (ms)     1 thread, ns an entry"
+            "                  one call, 1 thread (ms)      held run, {threads} threads (ms)     held run, 1 thread  1 thread, ns an entry"
         );
         println!(
-            "{:>7} {:>2} {:>5} {:>9} {:>9} {:>6}   {:>9} {:>9} {:>6}   {:>9} {:>9}  grows as entries to the",
-            "rows", "D", "runs", "ours", "rust", "ratio", "ours", "rust", "ratio", "ours", "rust"
+            "{:>7} {:>2} {:>5} {:>9} {:>9} {:>6}   {:>9} {:>9} {:>6}   {:>9} {:>8}   {:>9} {:>9}  grows as entries to the",
+            "rows",
+            "D",
+            "runs",
+            "ours",
+            "rust",
+            "ratio",
+            "ours",
+            "rust",
+            "ratio",
+            "ours",
+            "one call",
+            "ours",
+            "rust"
         );
     }
 
@@ -51,10 +65,10 @@ impl Tables {
     }
 
     pub fn whole(&mut self, seen: Whole) {
-        let [one, rust, many, rayon] = seen.least;
+        let [one, rust, many, rayon, held] = seen.least;
         let each = |time: f64| time * 1e9 / seen.entries as f64;
         print!(
-            "{:>7} {:>2} {:>5} {:>9.1} {:>9.1} {:>6.2}   {:>9.1} {:>9.1} {:>6.2}   {:>9.1} {:>9.1}",
+            "{:>7} {:>2} {:>5} {:>9.1} {:>9.1} {:>6.2}   {:>9.1} {:>9.1} {:>6.2}   {:>9.1} {:>8.3}   {:>9.1} {:>9.1}",
             seen.rows,
             seen.d,
             seen.runs,
@@ -64,6 +78,8 @@ impl Tables {
             milliseconds(many),
             milliseconds(rayon),
             many / rayon,
+            milliseconds(held),
+            held / one,
             each(one),
             each(rust),
         );
