@@ -70,6 +70,9 @@ static const char *const breakages[] = {"right",
                                         "program-status",
                                         "program-signal",
                                         "program-error",
+                                        "script-silent",
+                                        "script-number",
+                                        "script-lines",
                                         "crash",
                                         "endless"};
 
@@ -124,11 +127,11 @@ static uint64_t programs_done(void) { return told.program_ways[WHOLE] + told.pro
 
 static void through_program(const options *o, const text *file, const answer *due, random_source *r) {
   enum way way = once_in(r, 3) ? PIECES : WHOLE;
-  check_program(o->program, file, due, way, r);
+  check_program(o->program, PROGRAM, file, due, way, r);
   told.programs[due->number]++;
   told.program_ways[way]++;
   if (!o->script || programs_done() % SCRIPT_SHARE != 1) return;
-  check_program(o->script, file, due, way, r);
+  check_program(o->script, SCRIPT, file, due, way, r);
   told.scripts++;
 }
 

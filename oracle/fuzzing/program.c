@@ -10,7 +10,7 @@
 #include <sys/wait.h>
 #include <unistd.h>
 
-enum { VARIED_PIECES = 24, SHORT_PIECE = 16, LONGEST_PIECE = 1024, SOCKET_ROOM = 200000, SEEN_ROOM = 2 * LEAST_ROOM };
+enum { VARIED_PIECES = 24, SHORT_PIECE = 16, LONGEST_PIECE = 1024, SOCKET_ROOM = 200000, SEEN_ROOM = 2 * LEAST_ROOM, LONGEST_REFUSAL = 63 };
 
 extern char **environ;
 
@@ -110,16 +110,45 @@ static int run(const char *path, int in, int out, int error) {
   return status;
 }
 
-static void break_some(seen *out, seen *error, int *status) {
+/* Begins the line of words that the script says of a refusal; the words themselves have their home in include/threshcinch.h. */
+static void refusal_begins(char *begins, size_t room, const answer *due) {
+  char text[LONGEST_REFUSAL + 1] = "";
+  unsigned long long number, place;
+  memcpy(text, due->text, due->length < LONGEST_REFUSAL ? due->length : LONGEST_REFUSAL);
+  if (sscanf(text, "answer=%llu\nat=%llu\n", &number, &place) != 2) fail("a refusal with no place: %s", text);
+  snprintf(begins, room, "seedrun: refusal %llu at %s%llu", number, number == 17 && place ? "line " : "", place);
+}
+
+static void check_refusal_words(const seen *error, const answer *due) {
+  char begins[LONGEST_REFUSAL];
+  refusal_begins(begins, sizeof begins, due);
+  size_t length = strlen(begins);
+  int is_begun = error->length > length + 1 && !memcmp(error->bytes, begins, length) && strchr(": ", error->bytes[length]);
+  int is_line = is_begun && memchr(error->bytes, '\n', error->length) == error->bytes + error->length - 1;
+  if (!is_line) differ("script error", "no line '%s' with words, but %.*s", begins, (int)error->length, (const char *)error->bytes);
+}
+
+/* The program itself says nothing on standard error, and the script only a refusal in words. */
+static void check_error(const seen *error, const answer *due, enum speaker speaker) {
+  if (speaker == SCRIPT && due->number)
+    check_refusal_words(error, due);
+  else if (error->length)
+    differ("program error", "it says %zu bytes: %.60s", error->length, error->bytes);
+}
+
+static void break_some(seen *out, seen *error, int *status, enum speaker speaker) {
   if (breaks("program-byte")) out->bytes[out->length - 2] ^= 1;
   if (breaks("program-shorter")) out->length--;
   if (breaks("program-longer")) out->length++;
   if (breaks("program-status")) *status = 1 << 8;
   if (breaks("program-signal")) *status = SIGSEGV;
   if (breaks("program-error")) error->length = 1;
+  if (speaker == SCRIPT && error->length && breaks("script-silent")) error->length = 0;
+  if (speaker == SCRIPT && error->length && breaks("script-number")) error->bytes[strlen("seedrun: refusal ")] ^= 1;
+  if (speaker == SCRIPT && error->length && breaks("script-lines")) error->bytes[error->length - 2] = '\n';
 }
 
-void check_program(const char *path, const text *file, const answer *due, enum way way, random_source *r) {
+void check_program(const char *path, enum speaker speaker, const text *file, const answer *due, enum way way, random_source *r) {
   static seen out, error;
   int in = way == WHOLE ? input_whole(file) : input_pieces(file, r);
   seen_clear(&out);
@@ -128,12 +157,12 @@ void check_program(const char *path, const text *file, const answer *due, enum w
   close(in);
   seen_take(&out);
   seen_take(&error);
-  break_some(&out, &error, &status);
+  break_some(&out, &error, &status, speaker);
   if (WIFSIGNALED(status))
     differ("program crash", "signal %d", WTERMSIG(status));
   else if (status)
     differ("program status", "it is %d", WEXITSTATUS(status));
-  if (error.length) differ("program error", "it says %zu bytes: %.60s", error.length, error.bytes);
+  check_error(&error, due, speaker);
   if (out.length != due->length || memcmp(out.bytes, due->text, out.length))
     differ("program", "%zu bytes, not text_answer's %zu", out.length, due->length);
 }
