@@ -3,7 +3,7 @@
 # (source) after machine.sh.
 #
 #   progress_prove CRATE LOG COMMAND   runs `rt COMMAND CRATE` from the repository's root (COMMAND: check or staticlib), what it prints into
-#                                      LOG; its status is rt's. LOG's end goes to standard error where something is not proved
+#                                      LOG. Where something is not proved LOG's end goes to standard error, with a line, and it fails
 
 # Prints how many crates that takes: this one and all that it rests on in crates.txt, where the kit's own libraries have no line.
 progress_count() {
@@ -32,7 +32,7 @@ progress_end_line() { [ ! -t 2 ] || machine_print $'\n'; }
 progress_follow() {
   local of=$1 log=$2 proved=0 shown=0 line
   while IFS= read -r line; do
-    printf '%s\n' "$line"
+    printf '%s\n' "$line" 2>/dev/null || : # a full disk is no reason to stop: rt itself will say so
     case $line in 'rt: '*' proved ('*) proved=$((proved + 1)) ;; *) continue ;; esac
     case $line in *' proved (unchanged '*) [ -t 2 ] || continue ;; esac
     shown=$proved
@@ -54,6 +54,7 @@ progress_stop() {
 progress_prove() {
   local crate=$1 log=$2 command=$3 of status=0 from_rt rt signal
   command -v rt >/dev/null || { machine_fail 'the Rattle kit (rt) is not in PATH'; return 1; }
+  { : >"$log"; } 2>/dev/null || { machine_fail "${log#"$machine_root"/} cannot be written"; return 1; }
   of=$(progress_count "$crate")
   machine_say "proving crates/$crate with all that it rests on, $of crates: minutes the first time, less where little has changed"
   exec {from_rt}< <(cd "$machine_root" && exec setsid rt "$command" "$crate" </dev/null 2>&1)
@@ -67,6 +68,5 @@ progress_prove() {
   # rt staticlib has no such line for the crate that it was asked for.
   [ "$status" -ne 0 ] || [ "$progress_shown" -eq "$of" ] || progress_show "$of" "$of"
   progress_end_line
-  [ "$status" -eq 0 ] || tail -n 20 "$log" >&2
-  return "$status"
+  [ "$status" -eq 0 ] || { tail -n 20 "$log" >&2; machine_fail "crates/$crate is not proved; ${log#"$machine_root"/} has it whole"; }
 }
