@@ -27,18 +27,27 @@ progress_show() {
 
 progress_end_line() { [ ! -t 2 ] || machine_print $'\n'; }
 
-# Copies what rt prints from standard input to the log, and counts. An unchanged crate is proved at once and is worth no line of its own
-# where lines stay.
+# Copies what rt prints from standard input to the log, counts the crates, and shows the count when one more was proved. Unchanged crates come
+# many at a time, so that they are shown together, once rt is quiet for a second.
 progress_follow() {
-  local of=$1 log=$2 proved=0 shown=0 line
-  while IFS= read -r line; do
-    printf '%s\n' "$line" 2>/dev/null || : # a full disk is no reason to stop: rt itself will say so
-    case $line in 'rt: '*' proved ('*) proved=$((proved + 1)) ;; *) continue ;; esac
-    case $line in *' proved (unchanged '*) [ -t 2 ] || continue ;; esac
-    shown=$proved
-    progress_show "$shown" "$of"
+  local of=$1 log=$2 proved=0 line part='' ended
+  progress_shown=0
+  while :; do
+    ended=0
+    IFS= read -r -t 1 line || ended=$?
+    if [ "$ended" -eq 0 ]; then
+      line=$part$line part=''
+      printf '%s\n' "$line" 2>/dev/null || : # a full disk is no reason to stop: rt itself will say so
+      case $line in 'rt: '*' proved ('*) proved=$((proved + 1)) ;; *) continue ;; esac
+      case $line in *' proved (unchanged '*) continue ;; esac
+    elif [ "$ended" -gt 128 ]; then
+      part+=$line # the second is over; a line may have begun
+    else
+      break
+    fi
+    [ "$progress_shown" -eq "$proved" ] || progress_show "$proved" "$of"
+    progress_shown=$proved
   done >"$log"
-  progress_shown=$shown
 }
 
 # Ends all that rt started, and then the script as the signal would have.
