@@ -85,6 +85,7 @@ machine_tool() {
   fi
 }
 
+# machine_has_modules PYTHON MODULE...
 machine_has_modules() {
   local modules=${*:2}
   "$1" -c "import ${modules// /, }" </dev/null >/dev/null 2>&1
