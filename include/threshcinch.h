@@ -1,15 +1,21 @@
-/* threshcinch.h: the spectral seed of a neighbour graph, for C and C++ on x86-64.
+/* threshcinch.h: the spectral seed of a neighbour graph, for C11 and C++11 or later on x86-64.
  *
- * Link target/library/libthreshcinch.a or libthreshcinch.so, which library/build writes. Every function here is proved to meet its contract
- * (crates/threshcinch; the definitions that it cites are document 01's, in crates/definition and crates/machine). None asks for anything
- * first, except what C itself leaves to the caller: a list's address and length must be those of memory that is there, aligned for its
- * elements, and a list that is written must overlap no other list of the call.
+ * Link target/library/libthreshcinch.a or libthreshcinch.so, which library/build writes. Every function of the library is proved to meet its
+ * contract (crates/threshcinch; the definitions that it cites are document 01's, in crates/definition and crates/machine). None asks for
+ * anything first, except what C itself leaves to the caller: a list's address and length must be those of memory that is there, aligned for
+ * its elements, and a list that is written must overlap no other list of the call; and the thread must have the stack that a call takes:
+ * about 54 KB (closing 54, the one call 43, a chunk 41, opening 18; bindings/c/stack.c measures them).
+ *
+ * Call the short forms: threshcinch_embed, threshcinch_run_open, _run_chunk, _run_close, _run_accepted and _run_owed, and
+ * threshcinch_set_seed_std. They are a few lines around the library's own functions, the long forms, and see to two things that the proofs
+ * take for granted: no list is NULL, and the processor's arithmetic is IEEE 754's (THE ARITHMETIC, below).
  *
  * WHAT IS PROMISED
  * 1. Every call ends, on every graph, parameter, state and memory. Bad input is refused by a number and a place (below). A refused call
  *    changes no lent number; it answers the state that it got (a refused opening the empty state, a refused setter the old parameters,
  *    a refused one call zero counts).
- * 2. An accepted graph yields the seed of document 01's definition, roots rounded as IEEE 754 says: the same bits on every machine. They are
+ * 2. An accepted graph yields the seed of document 01's definition, roots rounded as IEEE 754 says: the same bits on every machine, and from
+ *    the short forms also in a thread that rounds otherwise or flushes subnormal numbers to zero. They are
  *    bhtsne's bits (a NaN counts as any NaN) where no row names a column twice, no Ritz value is NaN and the last round's first D + 1 Ritz
  *    values fall strictly. On a graph with an empty row, or a row of minus zeros only, zeros of either sign match.
  * 3. A held run gives the same seed, counts and memory as the one call, whatever the order of its chunk and closing calls, refused calls
@@ -21,12 +27,23 @@
  * WHAT MAY BE CALLED FROM SEVERAL THREADS AT ONCE
  * - threshcinch_chunk on the same state, graph and memory, as long as no two calls that run at once have the same chunk number. It reads
  *   nothing that another chunk of its stage writes and writes only its own rows, entries, partial and mark: proved in crates/threads for
- *   the definition of the work (theorem 7), which the code is proved to do. What is not proved is which loads the compiled code makes;
- *   examples/threads.c has been run under valgrind's helgrind and drd.
+ *   the definition of the work, which the code is proved to do (own-once, writes-own and reads-own; for a whole call call-writes-own and
+ *   call-reads-own). What is not proved is which loads the compiled code makes; examples/threads.c has been run under valgrind's helgrind
+ *   and drd.
  * - NOT beside chunk calls of the same run: threshcinch_close, threshcinch_open, threshcinch_spectral_embedding, or anything else that
  *   touches the lent memory. Join the chunk calls first.
  * - Calls on different memory, at any time: nothing here has state of its own. The graph is only read and may be shared.
  * - The functions that take no lists (parameters, sizes, progress), at any time.
+ * Each thread has a control register of its own, and a short form sets and puts back that of its thread alone.
+ *
+ * THE ARITHMETIC
+ * The proofs speak of IEEE 754 arithmetic that rounds to nearest, ties to even, and keeps subnormal numbers. A thread of x86-64 can have it
+ * otherwise: its control register MXCSR has the rounding direction, and two bits that flush subnormal results (FTZ) and operands (DAZ) to
+ * zero. A library that was linked with -ffast-math sets these two for a whole process when it is loaded. Then the bits of a seed change.
+ * So each short form sets the register to its default (0x1F80: also no exception traps) for the time of the call, and then puts back the
+ * whole register as it found it, with the flags of exceptions that were raised before: a call raises none. Long forms compute in whatever
+ * arithmetic they find. Functions that have no short form (threshcinch_params_new, _rounds and _degree, _chunk_count, _lent_sizes) compute
+ * with whole numbers alone: no register reaches them.
  */
 #ifndef THRESHCINCH_H
 #define THRESHCINCH_H
@@ -38,6 +55,7 @@
 #include <stddef.h>
 #include <stdint.h>
 #include <stdlib.h>
+#include <xmmintrin.h>
 
 /* what the library itself has, and not this header; library/build looks for these lines */
 #define THRESHCINCH_API extern
@@ -166,11 +184,14 @@ THRESHCINCH_ASSERT(offsetof(threshcinch_state, matrix) == 1968 && offsetof(thres
 THRESHCINCH_ASSERT(sizeof(threshcinch_answer) == 5704 && offsetof(threshcinch_answer, state) == 16);
 THRESHCINCH_ASSERT(sizeof(threshcinch_embedded) == 48 && offsetof(threshcinch_embedded, counts) == 16);
 
-/* ---- parameters: 5 rounds of degree 20, seed_std 1e-4, until set */
+/* ---- parameters: 5 rounds of degree 20, seed_std 1e-4, until set. A setter tests the number that it sets and no other; opening and the one
+ * call test all three, so a host may also write the fields itself. */
 
 THRESHCINCH_API threshcinch_params threshcinch_params_new(void);
 THRESHCINCH_API threshcinch_set threshcinch_params_rounds(threshcinch_params params, uint64_t rounds);
 THRESHCINCH_API threshcinch_set threshcinch_params_degree(threshcinch_params params, uint64_t degree);
+
+/* A long form, as it tests a floating-point number: needs MXCSR at its default. Short: threshcinch_set_seed_std. */
 THRESHCINCH_API threshcinch_set threshcinch_params_seed_std(threshcinch_params params, double seed_std);
 
 /* ---- sizes */
@@ -181,16 +202,20 @@ THRESHCINCH_API size_t threshcinch_chunk_count(size_t rows);
 /* how long each lent list must at least be; longer is allowed, and the rest stays untouched */
 THRESHCINCH_API threshcinch_sizes threshcinch_lent_sizes(uint64_t d, size_t rows, size_t entries);
 
-/* ---- progress, for people */
+/* ---- progress, for people. Long forms: they need MXCSR at its default, as they test the state's numbers. Short: threshcinch_run_accepted and
+ * threshcinch_run_owed. Both look at the state alone, which no chunk call changes, and not at the marks: within a stage neither moves. */
 
-/* calls accepted in the stages that are closed; 0 for a state that is damaged or empty */
+/* calls accepted in the stages that are closed, none of the stage at hand; 0 for a state that is damaged or empty */
 THRESHCINCH_API size_t threshcinch_calls_accepted(threshcinch_state state);
 
-/* calls that the run owes from the stage at hand on, if no further column is refreshed; 0 for a state that is damaged or empty */
+/* calls that the run owes from the stage at hand on, if no further column is refreshed: that stage counts whole, C chunks and the closing,
+ * however many of its chunks are done; 0 for a state that is damaged or empty */
 THRESHCINCH_API size_t threshcinch_calls_owed(threshcinch_state state);
 
-/* ---- the calls as the library has them: each list as address and length in elements, in document 01's order. Most callers want the
- * short forms further below. An empty list has length 0 and any address that is not NULL. */
+/* ---- the calls as the library has them, the long forms: each list as address and length in elements, in document 01's order. Most callers
+ * want the short forms further below. They need MXCSR at its default, 0x1F80 (threshcinch_arithmetic_begin sets it): in another rounding
+ * direction, or with subnormal numbers flushed to zero, the bits are others. They take no NULL, whatever the length: an empty list has length 0 and
+ * any other address. */
 
 THRESHCINCH_API threshcinch_embedded threshcinch_spectral_embedding(
     uint64_t d, threshcinch_params params,
@@ -307,77 +332,98 @@ static inline threshcinch_graph threshcinch_graph_of(size_t rows, const uint64_t
   return graph;
 }
 
-/* The library takes no NULL; an empty list may have one here. */
+/* ---- the arithmetic of a call: MXCSR at its default, and back. For callers of long forms too:
+ *
+ *   const unsigned found = threshcinch_arithmetic_begin();
+ *   ... long forms, and no arithmetic of the caller's own, which a compiler may move to either side ...
+ *   threshcinch_arithmetic_end(found);
+ *
+ * The call stays between the two. To a compiler all three are steps with effects that it cannot see through, and it keeps such steps in order:
+ * reading and setting the register are volatile, and the library's functions are machine code of another compiler in an archive, which no
+ * link-time optimization looks into. The short forms have no arithmetic between the two but the call's. */
+enum { THRESHCINCH_MXCSR = 0x1F80 };
+
+/* Answers the register as it was. */
+static inline unsigned threshcinch_arithmetic_begin(void) {
+  const unsigned found = _mm_getcsr();
+  _mm_setcsr(THRESHCINCH_MXCSR);
+  return found;
+}
+
+/* Puts it back whole. An exception's flag that comes back together with its trap raises nothing. */
+static inline void threshcinch_arithmetic_end(unsigned found) { _mm_setcsr(found); }
+
+/* ---- numbers */
+
+/* Sets seed_std, or answers refusal 10 with the old parameters. */
+static inline threshcinch_set threshcinch_set_seed_std(threshcinch_params params, double seed_std) {
+  const unsigned found = threshcinch_arithmetic_begin();
+  const threshcinch_set set = threshcinch_params_seed_std(params, seed_std);
+  threshcinch_arithmetic_end(found);
+  return set;
+}
+
+/* Calls accepted in the stages that are closed. */
+static inline size_t threshcinch_run_accepted(const threshcinch_state *state) {
+  const unsigned found = threshcinch_arithmetic_begin();
+  const size_t calls = threshcinch_calls_accepted(*state);
+  threshcinch_arithmetic_end(found);
+  return calls;
+}
+
+/* Calls owed from the stage at hand on. */
+static inline size_t threshcinch_run_owed(const threshcinch_state *state) {
+  const unsigned found = threshcinch_arithmetic_begin();
+  const size_t calls = threshcinch_calls_owed(*state);
+  threshcinch_arithmetic_end(found);
+  return calls;
+}
+
+/* ---- the calls */
+
+/* The library takes no NULL. Here a NULL list is an empty one, whatever its length says: it is taken where an empty list is, and is else refused
+ * by the number of a list that is too short (2 for starts, 4 for columns or values alone, 5 where entries are missing, 11 for lent memory, 16 in
+ * a held run). */
 static inline void *threshcinch_address(const void *address, size_t length) {
   static uint64_t nothing;
   return length == 0 || !address ? (void *)&nothing : (void *)(uintptr_t)address;
 }
 #define THRESHCINCH_LIST(type, of, list) (type *)threshcinch_address((of)->list, (of)->list##_length), (of)->list ? (of)->list##_length : 0
+#define THRESHCINCH_LISTS(graph, memory) \
+  THRESHCINCH_LIST(uint64_t, graph, starts), THRESHCINCH_LIST(uint32_t, graph, columns), THRESHCINCH_LIST(double, graph, values), \
+  THRESHCINCH_LIST(double, memory, inverse), THRESHCINCH_LIST(double, memory, v0), THRESHCINCH_LIST(uint32_t, memory, edge_columns), \
+  THRESHCINCH_LIST(double, memory, edge_weights), THRESHCINCH_LIST(double, memory, block0), THRESHCINCH_LIST(double, memory, block1), \
+  THRESHCINCH_LIST(double, memory, block2), THRESHCINCH_LIST(double, memory, partials), THRESHCINCH_LIST(uint8_t, memory, marks), \
+  THRESHCINCH_LIST(double, memory, output)
 
 /* The one call: the seed is in memory->output if the verdict's number is 0. */
 static inline threshcinch_embedded threshcinch_embed(uint64_t d, threshcinch_params params, const threshcinch_graph *graph, const threshcinch_memory *memory) {
-  return threshcinch_spectral_embedding(d, params, THRESHCINCH_LIST(uint64_t, graph, starts),
-                                        THRESHCINCH_LIST(uint32_t, graph, columns),
-                                        THRESHCINCH_LIST(double, graph, values),
-                                        THRESHCINCH_LIST(double, memory, inverse),
-                                        THRESHCINCH_LIST(double, memory, v0),
-                                        THRESHCINCH_LIST(uint32_t, memory, edge_columns),
-                                        THRESHCINCH_LIST(double, memory, edge_weights),
-                                        THRESHCINCH_LIST(double, memory, block0),
-                                        THRESHCINCH_LIST(double, memory, block1),
-                                        THRESHCINCH_LIST(double, memory, block2),
-                                        THRESHCINCH_LIST(double, memory, partials),
-                                        THRESHCINCH_LIST(uint8_t, memory, marks),
-                                        THRESHCINCH_LIST(double, memory, output));
+  const unsigned found = threshcinch_arithmetic_begin();
+  const threshcinch_embedded embedded = threshcinch_spectral_embedding(d, params, THRESHCINCH_LISTS(graph, memory));
+  threshcinch_arithmetic_end(found);
+  return embedded;
 }
 
 /* A held run: open once; then for each stage every chunk once, in any order, and close; until the answer of a call is 15. */
 static inline threshcinch_answer threshcinch_run_open(uint64_t d, threshcinch_params params, const threshcinch_graph *graph, const threshcinch_memory *memory) {
-  return threshcinch_open(d, params, THRESHCINCH_LIST(uint64_t, graph, starts),
-                          THRESHCINCH_LIST(uint32_t, graph, columns),
-                          THRESHCINCH_LIST(double, graph, values),
-                          THRESHCINCH_LIST(double, memory, inverse),
-                          THRESHCINCH_LIST(double, memory, v0),
-                          THRESHCINCH_LIST(uint32_t, memory, edge_columns),
-                          THRESHCINCH_LIST(double, memory, edge_weights),
-                          THRESHCINCH_LIST(double, memory, block0),
-                          THRESHCINCH_LIST(double, memory, block1),
-                          THRESHCINCH_LIST(double, memory, block2),
-                          THRESHCINCH_LIST(double, memory, partials),
-                          THRESHCINCH_LIST(uint8_t, memory, marks),
-                          THRESHCINCH_LIST(double, memory, output));
+  const unsigned found = threshcinch_arithmetic_begin();
+  const threshcinch_answer answer = threshcinch_open(d, params, THRESHCINCH_LISTS(graph, memory));
+  threshcinch_arithmetic_end(found);
+  return answer;
 }
 
 static inline threshcinch_answer threshcinch_run_chunk(const threshcinch_state *state, size_t number, const threshcinch_graph *graph, const threshcinch_memory *memory) {
-  return threshcinch_chunk(*state, number, THRESHCINCH_LIST(uint64_t, graph, starts),
-                           THRESHCINCH_LIST(uint32_t, graph, columns),
-                           THRESHCINCH_LIST(double, graph, values),
-                           THRESHCINCH_LIST(double, memory, inverse),
-                           THRESHCINCH_LIST(double, memory, v0),
-                           THRESHCINCH_LIST(uint32_t, memory, edge_columns),
-                           THRESHCINCH_LIST(double, memory, edge_weights),
-                           THRESHCINCH_LIST(double, memory, block0),
-                           THRESHCINCH_LIST(double, memory, block1),
-                           THRESHCINCH_LIST(double, memory, block2),
-                           THRESHCINCH_LIST(double, memory, partials),
-                           THRESHCINCH_LIST(uint8_t, memory, marks),
-                           THRESHCINCH_LIST(double, memory, output));
+  const unsigned found = threshcinch_arithmetic_begin();
+  const threshcinch_answer answer = threshcinch_chunk(*state, number, THRESHCINCH_LISTS(graph, memory));
+  threshcinch_arithmetic_end(found);
+  return answer;
 }
 
 static inline threshcinch_answer threshcinch_run_close(const threshcinch_state *state, const threshcinch_graph *graph, const threshcinch_memory *memory) {
-  return threshcinch_close(*state, THRESHCINCH_LIST(uint64_t, graph, starts),
-                           THRESHCINCH_LIST(uint32_t, graph, columns),
-                           THRESHCINCH_LIST(double, graph, values),
-                           THRESHCINCH_LIST(double, memory, inverse),
-                           THRESHCINCH_LIST(double, memory, v0),
-                           THRESHCINCH_LIST(uint32_t, memory, edge_columns),
-                           THRESHCINCH_LIST(double, memory, edge_weights),
-                           THRESHCINCH_LIST(double, memory, block0),
-                           THRESHCINCH_LIST(double, memory, block1),
-                           THRESHCINCH_LIST(double, memory, block2),
-                           THRESHCINCH_LIST(double, memory, partials),
-                           THRESHCINCH_LIST(uint8_t, memory, marks),
-                           THRESHCINCH_LIST(double, memory, output));
+  const unsigned found = threshcinch_arithmetic_begin();
+  const threshcinch_answer answer = threshcinch_close(*state, THRESHCINCH_LISTS(graph, memory));
+  threshcinch_arithmetic_end(found);
+  return answer;
 }
 
 /* a run stands before one of its stages */

@@ -1,4 +1,5 @@
-//! Links libthreshcinch.a: from the folder that THRESHCINCH_LIB names, or from the repository's target/library.
+//! Links libthreshcinch.a: from the folder that THRESHCINCH_LIB names (the one that holds libthreshcinch.a and libthreshcinch.so, for the
+//! Python binding too), or from the repository's target/library.
 
 use std::path::PathBuf;
 
@@ -27,6 +28,9 @@ fn folder_of_archive() -> Result<PathBuf, String> {
         Some(folder) => PathBuf::from(folder),
         None => PathBuf::from(std::env::var_os("CARGO_MANIFEST_DIR").unwrap_or_default()).join("../../target/library"),
     };
+    if given.is_some() && !folder.is_dir() {
+        return Err(format!("THRESHCINCH_LIB must name the folder that holds {ARCHIVE}, and {} is none", folder.display()));
+    }
     if !folder.join(ARCHIVE).is_file() {
         return Err(format!("{ARCHIVE} is not in {}: run library/build, or name its folder in THRESHCINCH_LIB", folder.display()));
     }

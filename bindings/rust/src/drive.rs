@@ -1,15 +1,16 @@
 //! A run driven to its end by several threads.
 //!
-//! Why this is allowed. Theorem 7 of the held run (crates/threads: `own-once`, `writes-own`, `reads-own`, and `call-writes-own` and
-//! `call-reads-own` for a whole call) shows: no place of a lent list is written by two chunks of a stage, and whatever stands at the
-//! places that other chunks of the stage write, a chunk call answers the same and leaves the same at its own places. It rests on a sound
-//! state and on row starts that never fall. An accepted opening has shown both; for a loaded run `Run::load` has tested that the library
-//! takes the state, and that the starts never fall.
+//! Why this is allowed. The laws of crates/threads (`own-once`, `writes-own`, `reads-own`, and `call-writes-own` and `call-reads-own` for a
+//! whole call) show: no place of a lent list is written by two chunks of a stage, and whatever stands at the places that other chunks of
+//! the stage write, a chunk call answers the same and leaves the same at its own places. They rest on a sound state and on row starts that
+//! never fall. An accepted opening has shown both; for a loaded run `Run::load` has tested that the library takes the state, and that the
+//! starts never fall.
 //!
-//! What it does not show, and what is seen to here: one chunk is never called by two threads at once (the board hands each number out
+//! What they do not show, and what is seen to here: one chunk is never called by two threads at once (the board hands each number out
 //! once), and no chunk call runs beside a closing (the driving thread closes alone, after every chunk that was handed out has come back).
-//! Nor does it show which loads the compiled code makes: it is about what a call's result depends on. That the bits are the same for any
-//! number of threads is tried by the script same_bits.
+//! Nor do they show which loads the compiled code makes: they are about what a call's result depends on. That the bits are the same for
+//! any number of threads is tried by the script same_bits. Each thread makes its calls in the default floating-point environment
+//! (src/arithmetic.rs), whatever it has from the thread that started it.
 
 use std::ops::ControlFlow;
 use std::sync::{Condvar, Mutex, MutexGuard, PoisonError};
@@ -152,7 +153,7 @@ impl Board {
 
     /// Does a chunk that this thread has taken, and gives it back.
     fn do_task(&self, task: Task) {
-        // SAFETY: theorem 7 (crates/threads; above) lets chunk calls of one stage run at once if each has another number: this one left the
+        // SAFETY: the laws of crates/threads (above) let chunk calls of one stage run at once if each has another number: this one left the
         // board for this task alone. The driving thread is in `stage` with the run borrowed, and leaves it only when this task is back: so
         // the lists stay where they are, nothing else touches them, and closing happens alone, afterwards.
         let answer = unsafe { task.lists.chunk(&task.state, task.number) };

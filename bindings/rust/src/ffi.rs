@@ -1,4 +1,5 @@
-//! include/threshcinch.h in Rust: the records that cross by value, and the calls.
+//! include/threshcinch.h in Rust: the records that cross by value, and the calls. They are the header's long forms, so they are made in
+//! `arithmetic::in_default` alone.
 
 use std::mem::{offset_of, size_of};
 

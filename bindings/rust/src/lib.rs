@@ -17,9 +17,16 @@
 //! ```
 //!
 //! Nothing here panics, whatever it is given. Input that cannot be taken is a [`Refusal`].
+//!
+//! Every call of the library, in each thread, is made in the default floating-point environment, whatever the thread has: rounding to nearest,
+//! subnormal numbers kept, no traps. Afterwards the environment is as it was, its exception flags too.
+//!
+//! The library is linked from the folder that the environment variable `THRESHCINCH_LIB` names when the crate is built, the one that holds
+//! libthreshcinch.a and libthreshcinch.so, or else from the repository's target/library, where library/build writes them.
 #![deny(missing_docs)]
 #![deny(unsafe_op_in_unsafe_fn)]
 
+mod arithmetic;
 pub mod bhtsne;
 mod drive;
 mod ffi;

@@ -1,5 +1,6 @@
 //! The graph that is read and the memory that is lent, and both as the library takes them.
 
+use crate::arithmetic::in_default;
 use crate::ffi::{self, Answer, Embedded, State};
 use crate::{Params, Refusal};
 
@@ -94,7 +95,7 @@ impl Memory {
     /// How long each list must at least be; refusals 1, 2 and 3.
     pub fn lengths_for(dims: usize, rows: usize, entries: usize) -> Result<[usize; 10], Refusal> {
         // SAFETY: numbers by value only.
-        let sizes = unsafe { ffi::threshcinch_lent_sizes(dims as u64, rows, entries) };
+        let sizes = in_default(|| unsafe { ffi::threshcinch_lent_sizes(dims as u64, rows, entries) });
         Refusal::check(sizes.verdict)?;
         Ok(sizes.lengths)
     }
@@ -185,21 +186,21 @@ impl Lists {
 
     /// SAFETY: the graph and the memory that the lists are of are still there and untouched, and nobody else uses the memory meanwhile.
     pub(crate) unsafe fn embed(&self, dims: usize, params: Params) -> Embedded {
-        unsafe { on_lists!(threshcinch_spectral_embedding(dims as u64, params.raw), self) }
+        in_default(|| unsafe { on_lists!(threshcinch_spectral_embedding(dims as u64, params.raw), self) })
     }
 
     /// SAFETY: as for `embed`.
     pub(crate) unsafe fn open(&self, dims: usize, params: Params) -> Answer {
-        unsafe { on_lists!(threshcinch_open(dims as u64, params.raw), self) }
+        in_default(|| unsafe { on_lists!(threshcinch_open(dims as u64, params.raw), self) })
     }
 
     /// SAFETY: as for `embed`, except that other threads may be in `chunk` too, with the same state and each with another number.
     pub(crate) unsafe fn chunk(&self, state: &State, number: usize) -> Answer {
-        unsafe { on_lists!(threshcinch_chunk(*state, number), self) }
+        in_default(|| unsafe { on_lists!(threshcinch_chunk(*state, number), self) })
     }
 
     /// SAFETY: as for `embed`: every chunk call has returned.
     pub(crate) unsafe fn close(&self, state: &State) -> Answer {
-        unsafe { on_lists!(threshcinch_close(*state), self) }
+        in_default(|| unsafe { on_lists!(threshcinch_close(*state), self) })
     }
 }

@@ -1,5 +1,6 @@
 //! Parameters, made and set by the library.
 
+use crate::arithmetic::in_default;
 use crate::ffi::{self, RawParams, Set};
 use crate::Refusal;
 
@@ -25,25 +26,25 @@ impl Params {
     /// 5 rounds of degree 20, seed_std 1e-4.
     pub fn new() -> Params {
         // SAFETY: takes nothing, answers a record by value.
-        Params { raw: unsafe { ffi::threshcinch_params_new() } }
+        Params { raw: in_default(|| unsafe { ffi::threshcinch_params_new() }) }
     }
 
     /// Sets the rounds, 1 to 1,000; refusal 8 otherwise.
     pub fn rounds(self, rounds: u64) -> Result<Params, Refusal> {
         // SAFETY: numbers by value only.
-        Params::checked(unsafe { ffi::threshcinch_params_rounds(self.raw, rounds) })
+        Params::checked(in_default(|| unsafe { ffi::threshcinch_params_rounds(self.raw, rounds) }))
     }
 
     /// Sets the degree of the filter, 1 to 1,000; refusal 9 otherwise.
     pub fn degree(self, degree: u64) -> Result<Params, Refusal> {
         // SAFETY: numbers by value only.
-        Params::checked(unsafe { ffi::threshcinch_params_degree(self.raw, degree) })
+        Params::checked(in_default(|| unsafe { ffi::threshcinch_params_degree(self.raw, degree) }))
     }
 
     /// Sets the standard deviation that each column of the seed is scaled to, positive and finite; refusal 10 otherwise.
     pub fn seed_std(self, seed_std: f64) -> Result<Params, Refusal> {
         // SAFETY: numbers by value only.
-        Params::checked(unsafe { ffi::threshcinch_params_seed_std(self.raw, seed_std) })
+        Params::checked(in_default(|| unsafe { ffi::threshcinch_params_seed_std(self.raw, seed_std) }))
     }
 
     /// The rounds.

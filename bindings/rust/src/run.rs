@@ -1,5 +1,6 @@
 //! The held run: the same work as the one call, chunk by chunk, in any order, stopped and gone on with anywhere.
 
+use crate::arithmetic::in_default;
 use crate::ffi::{self, Answer, State};
 use crate::memory::Lists;
 use crate::{Graph, Memory, Params, Refusal, Seed};
@@ -34,9 +35,10 @@ const STAGES: [&str; 21] = [
 pub struct Progress {
     /// The name of the stage that the run stands in.
     pub stage: &'static str,
-    /// Calls accepted in the stages that are closed.
+    /// Calls accepted in the stages that are closed, none of this one.
     pub accepted: usize,
-    /// Calls owed from this stage on, if no further column is refreshed; a refreshed one adds to them.
+    /// Calls owed from this stage on, if no further column is refreshed; a refreshed one adds to them. This stage counts whole, with its closing,
+    /// however many of its chunks are done.
     pub owed: usize,
 }
 
@@ -92,7 +94,8 @@ impl<'g> Run<'g> {
     /// The stage's name, and the calls accepted and owed.
     pub fn progress(&self) -> Progress {
         // SAFETY: a record by value only.
-        let (accepted, owed) = unsafe { (ffi::threshcinch_calls_accepted(self.state), ffi::threshcinch_calls_owed(self.state)) };
+        let calls = || unsafe { (ffi::threshcinch_calls_accepted(self.state), ffi::threshcinch_calls_owed(self.state)) };
+        let (accepted, owed) = in_default(calls);
         Progress { stage: STAGES.get(self.state.progress.stage).copied().unwrap_or("damaged"), accepted, owed }
     }
 

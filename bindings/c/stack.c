@@ -1,0 +1,131 @@
+/* stack: how much stack a call takes, and that it is no more than the header says.
+ *
+ * Each call is made in a thread of its own, whose stack is filled with a pattern first: what lies below the frame that makes the call and has
+ * another byte was used. It is the short form that is measured, with its copies of the state and the answer.
+ * Status: 0, or 1 where a call takes more or cannot be made.
+ */
+#define _POSIX_C_SOURCE 200809L
+#include <pthread.h>
+
+#include "check.h"
+
+enum { STACK = 96 * 1024, PATTERN = 0xA5, SAID = 56 * 1024 };
+
+/* A call to be made, and the frame that made it. */
+typedef struct Call {
+  void (*make)(struct Call *);
+  uint64_t d;
+  threshcinch_params params;
+  const threshcinch_graph *graph;
+  const threshcinch_memory *memory;
+  size_t number;
+  threshcinch_answer answer;
+  threshcinch_embedded embedded;
+  size_t calls;
+  const unsigned char *frame;
+} Call;
+
+/* Not inlined, so that the frame is that of the call alone. */
+#define MAKES(name, call_itself)                                         \
+  __attribute__((noinline)) static void name(Call *call) {               \
+    call->frame = (const unsigned char *)__builtin_frame_address(0);     \
+    call_itself;                                                         \
+  }
+
+MAKES(nothing, call->calls = 0)
+MAKES(embed, call->embedded = threshcinch_embed(call->d, call->params, call->graph, call->memory))
+MAKES(open_run, call->answer = threshcinch_run_open(call->d, call->params, call->graph, call->memory))
+MAKES(chunk, call->answer = threshcinch_run_chunk(&call->answer.state, call->number, call->graph, call->memory))
+MAKES(close_stage, call->answer = threshcinch_run_close(&call->answer.state, call->graph, call->memory))
+MAKES(owed, call->calls = threshcinch_run_owed(&call->answer.state))
+
+static void *thread_main(void *given) {
+  Call *call = (Call *)given;
+  call->make(call);
+  return NULL;
+}
+
+/* Bytes used below the frame that made the call. */
+static size_t used(Call *call, void (*make)(Call *)) {
+  static unsigned char stack[STACK] __attribute__((aligned(4096)));
+  pthread_attr_t attributes;
+  pthread_t thread;
+  size_t untouched = 0;
+  call->make = make;
+  memset(stack, PATTERN, sizeof stack);
+  if (pthread_attr_init(&attributes) || pthread_attr_setstack(&attributes, stack, sizeof stack)) fail("no stack of its own");
+  if (pthread_create(&thread, &attributes, thread_main, call) || pthread_join(thread, NULL)) fail("no thread");
+  pthread_attr_destroy(&attributes);
+  while (untouched < STACK && stack[untouched] == PATTERN) untouched++;
+  if (!untouched) fail("a call takes more than %d bytes", STACK);
+  return (size_t)(call->frame - (stack + untouched));
+}
+
+/* The most that each kind of call took. */
+typedef struct {
+  size_t embed;
+  size_t open;
+  size_t chunk;
+  size_t close;
+  size_t owed;
+} Most;
+
+static void raise_to(size_t *most, size_t bytes) {
+  if (*most < bytes) *most = bytes;
+}
+
+/* A whole held run of one chunk, and the one call. */
+static void measure(uint64_t d, const threshcinch_graph *graph, Most *most) {
+  threshcinch_memory memory = memory_for(d, graph);
+  Call call;
+  memset(&call, 0, sizeof call);
+  call.d = d;
+  call.params = threshcinch_params_new();
+  call.params.rounds = 1;
+  call.params.degree = 2;
+  call.graph = graph;
+  call.memory = &memory;
+  raise_to(&most->embed, used(&call, embed));
+  accept("the one call", call.embedded.verdict);
+  raise_to(&most->open, used(&call, open_run));
+  accept("opening", call.answer.verdict);
+  while (threshcinch_is_open(&call.answer.state)) {
+    raise_to(&most->owed, used(&call, owed));
+    raise_to(&most->chunk, used(&call, chunk));
+    accept("a chunk", call.answer.verdict);
+    raise_to(&most->close, used(&call, close_stage));
+    accept("closing", call.answer.verdict);
+  }
+  threshcinch_memory_free(&memory);
+}
+
+/* Every row has every column, the last one first: the most work for the sorting. */
+static threshcinch_graph dense(size_t rows) {
+  uint64_t *starts = (uint64_t *)calloc(rows + 1, sizeof *starts);
+  uint32_t *columns = (uint32_t *)calloc(rows * rows, sizeof *columns);
+  double *values = (double *)calloc(rows * rows, sizeof *values);
+  if (!starts || !columns || !values) fail("no memory for the graph");
+  for (size_t entry = 0; entry < rows * rows; entry++) {
+    columns[entry] = (uint32_t)(rows - 1 - entry % rows);
+    values[entry] = ring_value(0, entry);
+    starts[entry / rows + 1] = entry + 1;
+  }
+  return threshcinch_graph_of(rows, starts, rows * rows, columns, values);
+}
+
+int main(void) {
+  const threshcinch_graph one_row = dense(1), large_rows = dense(200), small_rows = ring(30);
+  Most most = {0, 0, 0, 0, 0};
+  Call idle;
+  memset(&idle, 0, sizeof idle);
+  /* with one row columns collapse, so that they are refreshed and zeroed */
+  measure(7, &one_row, &most);
+  measure(7, &small_rows, &most);
+  measure(1, &large_rows, &most);
+  printf("stack: the one call %zu bytes, opening %zu, a chunk %zu, closing %zu, calls owed %zu; a thread that calls nothing %zu\n", most.embed,
+         most.open, most.chunk, most.close, most.owed, used(&idle, nothing));
+  const size_t all[] = {most.embed, most.open, most.chunk, most.close, most.owed};
+  for (size_t at = 0; at < sizeof all / sizeof *all; at++)
+    if (all[at] > SAID) fail("a call takes more than the %d bytes that the header says", SAID);
+  return 0;
+}
