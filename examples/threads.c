@@ -5,6 +5,8 @@
  * The graph is the oracle's ring `big ROWS 2`, D is 2. In each stage every thread takes the chunk with its own number and then, as it gets
  * free, the next one that nobody has; when all are done, one thread closes the stage. Repeats turn the chunk numbers, so that each thread
  * meets other rows. Every lent list and the counts are held to the one call's, the whole end state to that of a held run in one thread.
+ * Each thread rounds in another direction, as a host's threads may: the short forms compute in the default arithmetic all the same, and the
+ * direction is looked at afterwards. (Only the direction: valgrind keeps no more of the register. bindings/c/environment.c has the rest.)
  * Status: 0 the same, 1 a difference or a refusal, 2 bad arguments, or no memory or threads to be had.
  */
 #define _POSIX_C_SOURCE 200809L /* for barriers */
@@ -35,6 +37,7 @@ typedef struct {
   Run *run;
   size_t number;
   threshcinch_verdict refusal;
+  int direction_kept;
   pthread_t thread;
 } Worker;
 
@@ -88,10 +91,10 @@ static threshcinch_graph ring(size_t rows) {
 
 /* ---- a run in several threads */
 
-/* All threads get the same state and the same lists. Theorem 7 (crates/threads, specs/Owned.antt) allows it: no place of a lent list
+/* All threads get the same state and the same lists. The laws of crates/threads (specs/Owned.antt) allow it: no place of a lent list
    belongs to two chunks of a stage (own-once), a chunk call writes its own places and mark only (call-writes-own), and neither its answer
-   nor what it writes depends on another chunk's places (call-reads-own). It says so of the definition, which the code is proved to
-   compute. Which loads the compiled code makes it does not say, so this program is also run under helgrind and drd. */
+   nor what it writes depends on another chunk's places (call-reads-own). They say so of the definition, which the code is proved to
+   compute. Which loads the compiled code makes they do not say, so this program is also run under helgrind and drd. */
 static void work(Worker *worker, size_t place) {
   Run *run = worker->run;
   const threshcinch_answer answer = threshcinch_run_chunk(&run->state, (place + run->turn) % run->chunks, run->graph, run->memory);
@@ -103,7 +106,7 @@ static size_t next_place(Run *run) {
   return run->threads + atomic_fetch_add_explicit(&run->next, 1, memory_order_relaxed);
 }
 
-/* Theorem 7 is silent on closing, which reads what all chunks wrote: it comes after a barrier, and the next stage after another. */
+/* The laws are silent on closing, which reads what all chunks wrote: it comes after a barrier, and the next stage after another. */
 static void close_stage(Run *run) {
   const threshcinch_answer answer = threshcinch_run_close(&run->state, run->graph, run->memory);
   run->state = answer.state;
@@ -112,13 +115,16 @@ static void close_stage(Run *run) {
 }
 
 static void *worker_main(void *given) {
+  static const unsigned directions[] = {_MM_ROUND_UP, _MM_ROUND_TOWARD_ZERO, _MM_ROUND_NEAREST, _MM_ROUND_DOWN};
   Worker *worker = given;
   Run *run = worker->run;
+  _MM_SET_ROUNDING_MODE(directions[worker->number % 4]);
   while (threshcinch_is_open(&run->state) && !run->refusal.number) {
     for (size_t place = worker->number; place < run->chunks; place = next_place(run)) work(worker, place);
     if (pthread_barrier_wait(&run->barrier) == PTHREAD_BARRIER_SERIAL_THREAD) close_stage(run);
     pthread_barrier_wait(&run->barrier);
   }
+  worker->direction_kept = _MM_GET_ROUNDING_MODE() == directions[worker->number % 4];
   return NULL;
 }
 
@@ -139,6 +145,7 @@ static threshcinch_state run_in_threads(size_t threads, size_t turn, threshcinch
   for (size_t number = 0; number < threads; number++) {
     pthread_join(workers[number].thread, NULL);
     accept("a chunk", workers[number].refusal);
+    if (!workers[number].direction_kept) fail(1, "thread %zu has lost its rounding direction", number);
   }
   accept("closing", run.refusal);
   pthread_barrier_destroy(&run.barrier);
@@ -220,7 +227,7 @@ int main(int count, char **words) {
   const threshcinch_state ended = run_in_threads(1, 0, params, &graph, &alone);
   for (size_t repeat = 0; repeat < repeats; repeat++) compare(threads, repeat, params, &graph, &one, embedded.counts, &ended);
 
-  const size_t chunks = threshcinch_chunk_count(rows), calls = threshcinch_calls_accepted(ended);
+  const size_t chunks = threshcinch_chunk_count(rows), calls = threshcinch_run_accepted(&ended);
   printf("the same bits: rows=%zu chunks=%zu threads=%zu repeats=%zu calls=%zu digest=%016llx\n", rows, chunks, threads, repeats, calls,
          (unsigned long long)digest(&one));
   threshcinch_memory_free(&one);

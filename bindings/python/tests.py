@@ -1,4 +1,5 @@
 """Tests of threshcinch.py over the library: documents' cases, the oracle's stored seeds, refusals, and what the binding itself decides."""
+import contextlib
 import ctypes
 import os
 import pathlib
@@ -6,6 +7,8 @@ import pickle
 import re
 import subprocess
 import sys
+import tempfile
+import threading
 import types
 import unittest
 
@@ -395,6 +398,166 @@ class Graphs(Case):
         self.same(spectral_embedding(graph, progress=Watch()), expected)
 
 
+# MXCSR in several environments. None where an exception traps: Python's own arithmetic would end the process.
+ENVIRONMENTS = {
+    "nearest": 0x1F80,
+    "downward": 0x3F80,
+    "upward": 0x5F80,
+    "toward zero": 0x7F80,
+    "flush-to-zero": 0x9F80,
+    "denormals-are-zero": 0x1FC0,
+    "flush-to-zero, denormals-are-zero": 0x9FC0,
+    "upward and all bits set": 0xDFFF,
+    "toward zero and all bits set": 0xFFFF,
+}
+
+
+def register():
+    """This thread's control register."""
+    found = threshcinch.Environment()
+    threshcinch._c.fegetenv(found)
+    return found.mxcsr
+
+
+@contextlib.contextmanager
+def environment(mxcsr):
+    """The thread with its control register so."""
+    found = threshcinch.Environment()
+    threshcinch._c.fegetenv(found)
+    threshcinch._c.fesetenv(threshcinch.Environment(found.x87, mxcsr))
+    try:
+        yield
+    finally:
+        threshcinch._c.fesetenv(found)
+
+
+def control(mxcsr):
+    """The register without the flags of raised exceptions, which the test's own arithmetic may raise."""
+    return mxcsr & ~0x3F
+
+
+def subnormal_ring(rows):
+    """Each row has the rows that lie one and three before and after it; every value is subnormal."""
+    columns = [(row + step) % rows for row in range(rows) for step in (1, -1, 3, -3)]
+    pairs = [(min(entry // 4, column), max(entry // 4, column)) for entry, column in enumerate(columns)]
+    values = np.array([splitmix(low << 32 | high) >> 12 for low, high in pairs], np.uint64).view(np.float64)
+    return csr(range(0, 4 * rows + 1, 4), columns, values)
+
+
+class Environments(Case):
+    """In each floating-point environment the bits are the default's, and the environment is afterwards as it was."""
+
+    def setUp(self):
+        self.graph = subnormal_ring(60)
+        self.words = {"dims": 1, "rounds": 1, "degree": 2}
+
+    def in_each(self, work):
+        """Each environment's name, and what the work answered in it. Nothing is looked at before the environment is the default again."""
+        answers = {}
+        for name, mxcsr in ENVIRONMENTS.items():
+            with environment(mxcsr):
+                answers[name] = work()
+                left = register()
+            self.assertEqual(control(left), control(mxcsr), name)
+        return answers.items()
+
+    def bare_call(self):
+        """The library's own function with nothing around it: its arguments, made in the default environment."""
+        params = threshcinch._params(self.words["rounds"], self.words["degree"], None)
+        sizes = threshcinch._call("threshcinch_lent_sizes", 1, self.graph.shape[0], self.graph.nnz)
+        memory = [np.zeros(length, kind) for length, kind in zip(sizes.lengths, threshcinch.MEMORY_KINDS)]
+        lists = threshcinch._lists(*threshcinch._stored(self.graph)) + memory
+        return lists, [1, params] + threshcinch._words(lists)
+
+    def test_the_bare_call_shows_the_environment(self):
+        """So that a binding that sets nothing would be found out."""
+        expected = bits(spectral_embedding(self.graph, **self.words)[0]).ravel()
+        lists, words = self.bare_call()
+
+        def work():
+            embedded = threshcinch._library.threshcinch_spectral_embedding(*words)
+            return embedded.verdict.number, lists[-1].copy()
+
+        for name, (number, seed) in self.in_each(work):
+            self.assertEqual((number, (bits(seed) != expected).any()), (0, name != "nearest"), name)
+
+    def test_one_call(self):
+        expected = spectral_embedding(self.graph, **self.words)
+        for name, found in self.in_each(lambda: spectral_embedding(self.graph, **self.words)):
+            self.same(found, expected)
+
+    def test_held_run(self):
+        """Progress is the caller's own code, and has the caller's environment."""
+        expected = spectral_embedding(self.graph, **self.words)
+        watch = Watch()
+        spectral_embedding(self.graph, progress=watch, **self.words)
+
+        def work():
+            told, registers = [], []
+
+            def progress(accepted, owed):
+                told.append((accepted, owed))
+                registers.append(register())
+
+            return spectral_embedding(self.graph, progress=progress, **self.words), told, registers
+
+        for name, (found, told, registers) in self.in_each(work):
+            self.same(found, expected)
+            self.assertEqual(told, watch.told)
+            self.assertEqual({control(found) for found in registers}, {control(ENVIRONMENTS[name])})
+
+    def test_a_call_leaves_every_bit(self):
+        """Also the flags of exceptions: those that were raised stay, and a call, which rounds, raises none."""
+        _, words = self.bare_call()
+        for name, mxcsr in ENVIRONMENTS.items():
+            for flags in (0, 0x15, 0x3F):
+                with environment(control(mxcsr) | flags):
+                    before = register()
+                    threshcinch._call("threshcinch_spectral_embedding", *words)
+                    after = register()
+                self.assertEqual((before, after), (control(mxcsr) | flags,) * 2, name)
+
+    def test_what_is_raised_inside_leaves_the_environment(self):
+        with environment(0xFFC0):
+            with self.assertRaises(Refusal):
+                spectral_embedding(self.graph, dims=8)
+            with self.assertRaises(ctypes.ArgumentError):
+                threshcinch._call("threshcinch_chunk_count", "many")
+            left = register()
+        self.assertEqual(control(left), 0xFFC0)
+
+    def test_the_least_seed_std(self):
+        expected = spectral_embedding(self.graph, seed_std=5e-324, **self.words)
+        for name, found in self.in_each(lambda: spectral_embedding(self.graph, seed_std=5e-324, **self.words)):
+            self.same(found, expected)
+
+    def test_conversions(self):
+        """float32 has subnormal numbers of its own, and whole numbers above 2^53 round when they become float64."""
+        small, large = self.graph.copy(), self.graph.copy()
+        small.data = np.arange(1, small.nnz + 1, dtype=np.uint32).view(np.float32)
+        large.data = np.int64(2) ** 53 + np.arange(1, large.nnz + 1, dtype=np.int64)
+        for graph, seed_std in ((small, np.float32(1e-42)), (large, 2**53 + 1)):
+            expected = spectral_embedding(graph, seed_std=seed_std, **self.words)
+            for name, found in self.in_each(lambda: spectral_embedding(graph, seed_std=seed_std, **self.words)):
+                self.same(found, expected)
+
+    def test_a_thread_has_its_makers_environment(self):
+        expected = spectral_embedding(self.graph, **self.words)
+        found = []
+
+        def work():
+            found.append((control(register()), spectral_embedding(self.graph, **self.words), control(register())))
+
+        for name, mxcsr in ENVIRONMENTS.items():
+            with environment(mxcsr):
+                thread = threading.Thread(target=work)
+                thread.start()
+                thread.join()
+            before, answer, after = found.pop()
+            self.assertEqual((before, after), (control(mxcsr),) * 2, name)
+            self.same(answer, expected)
+
+
 class Module(Case):
     """What the module says of the header and of a machine without the library."""
 
@@ -422,19 +585,26 @@ class Module(Case):
         self.assertEqual(threshcinch.WORDS, found)
 
     def fails(self, code, **words):
-        environment = {**os.environ, "PYTHONPATH": str(HERE), **words}
-        done = subprocess.run([sys.executable, "-c", code], env=environment, capture_output=True, text=True)
+        words = {**os.environ, "PYTHONPATH": str(HERE), **words}
+        done = subprocess.run([sys.executable, "-c", code], env=words, capture_output=True, text=True)
         self.assertEqual(done.returncode, 1)
         last = done.stderr.strip().split("\n")[-1]
         self.assertTrue(last.startswith("ImportError: threshcinch: "), last)
         self.assertEqual(done.stderr.count("Traceback"), 1, done.stderr)
         return last
 
+    def test_no_folder(self):
+        """THRESHCINCH_LIB is a folder, for Rust and Python alike: neither the library itself nor something that is not there."""
+        for wrong in (threshcinch._library._name, str(HERE / "nothing")):
+            self.assertIn("THRESHCINCH_LIB must name the folder", self.fails("import threshcinch", THRESHCINCH_LIB=wrong))
+
     def test_no_library(self):
-        self.assertIn("library/build", self.fails("import threshcinch", THRESHCINCH_LIB=str(HERE / "nothing.so")))
+        self.assertIn("library/build", self.fails("import threshcinch", THRESHCINCH_LIB=str(HERE)))
 
     def test_a_library_without_the_functions(self):
-        self.assertIn("threshcinch_params_new", self.fails("import threshcinch", THRESHCINCH_LIB=self.libc()))
+        with tempfile.TemporaryDirectory() as folder:
+            os.symlink(self.libc(), os.path.join(folder, "libthreshcinch.so"))
+            self.assertIn("threshcinch_params_new", self.fails("import threshcinch", THRESHCINCH_LIB=folder))
 
     def libc(self):
         """The C library that this process has: a library, but not ours."""
@@ -446,10 +616,10 @@ class Module(Case):
         self.assertIn("x86-64", last)
         self.assertIn("aarch64", last)
 
-    def test_the_library_is_found_by_its_name(self):
-        given = threshcinch._library._name
-        environment = {**os.environ, "PYTHONPATH": str(HERE), "THRESHCINCH_LIB": given}
-        subprocess.run([sys.executable, "-c", "import threshcinch"], env=environment, check=True)
+    def test_the_library_is_found_in_its_folder(self):
+        folder = os.path.dirname(threshcinch._library._name)
+        words = {**os.environ, "PYTHONPATH": str(HERE), "THRESHCINCH_LIB": folder}
+        subprocess.run([sys.executable, "-c", "import threshcinch"], env=words, check=True)
 
 
 if __name__ == "__main__":

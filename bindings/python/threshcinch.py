@@ -3,12 +3,15 @@
     import threshcinch
     seed, counts = threshcinch.spectral_embedding(graph)      # graph: scipy.sparse.csr_matrix or csr_array, n x n
 
-The work is done by libthreshcinch.so, which library/build writes; include/threshcinch.h says what it promises. It is looked for where
-the environment variable THRESHCINCH_LIB says, or at ../../target/library/libthreshcinch.so beside this file.
+The work is done by libthreshcinch.so, which library/build writes; include/threshcinch.h says what it promises. It is looked for in the
+folder that the environment variable THRESHCINCH_LIB names (the one that holds libthreshcinch.a and libthreshcinch.so, for the Rust binding
+too), or in ../../target/library beside this file.
 
 Everything here either turns SciPy's arrays into the library's lists or turns its answers into Python's. Nothing is computed here, so the
-seed has the library's bits: the same on every machine, for the same entries in the same order.
+seed has the library's bits: the same on every machine, for the same entries in the same order. That holds in every floating-point
+environment too: conversions to float64 and the library's calls are made in the default one, and the thread's own is put back after each.
 """
+import contextlib
 import ctypes
 import operator
 import os
@@ -126,24 +129,71 @@ _FUNCTIONS = {
 }
 
 
-def _load():
-    """The library with its functions declared, or an ImportError of one line."""
-    if platform.machine() != "x86_64":
-        raise ImportError(f"threshcinch: the library is for x86-64, and this machine is {platform.machine()}")
-    beside = pathlib.Path(__file__).resolve().parents[2] / "target" / "library" / "libthreshcinch.so"
-    path = os.path.abspath(os.environ.get("THRESHCINCH_LIB") or beside)
+def _path():
+    """Where the library is, or an ImportError of one line."""
+    given = os.environ.get("THRESHCINCH_LIB")
+    folder = os.path.abspath(given or pathlib.Path(__file__).resolve().parents[2] / "target" / "library")
+    if given and not os.path.isdir(folder):
+        raise ImportError(f"threshcinch: THRESHCINCH_LIB must name the folder that holds libthreshcinch.so, and {folder} is none")
+    path = os.path.join(folder, "libthreshcinch.so")
+    if not os.path.isfile(path):
+        raise ImportError(f"threshcinch: libthreshcinch.so is not in {folder}: run library/build, or name its folder in THRESHCINCH_LIB")
+    return path
+
+
+def _load(path, functions):
+    """A library with its functions declared, or an ImportError of one line."""
     try:
         library = ctypes.CDLL(path)
-        for name, (answer, arguments) in _FUNCTIONS.items():
+        for name, (answer, arguments) in functions.items():
             function = getattr(library, name)
             function.restype = answer
             function.argtypes = arguments
     except (OSError, AttributeError) as fault:
-        raise ImportError(f"threshcinch: {fault} (library/build writes the library; THRESHCINCH_LIB may say where it is)") from None
+        raise ImportError(f"threshcinch: {fault}") from None
     return library
 
 
-_library = _load()
+if platform.machine() != "x86_64":
+    raise ImportError(f"threshcinch: the library is for x86-64, and this machine is {platform.machine()}")
+_library = _load(_path(), _FUNCTIONS)
+
+# ---- the floating-point environment
+
+
+class Environment(ctypes.Structure):
+    """C's fenv_t on x86-64: registers of the x87 unit, which the library does not use, and the control register of its arithmetic."""
+
+    _fields_ = [("x87", ctypes.c_uint32 * 7), ("mxcsr", ctypes.c_uint32)]
+
+
+# round to nearest, keep subnormal numbers, no exception traps; none was raised
+_DEFAULT = 0x1F80
+_ENVIRONMENT = ctypes.POINTER(Environment)
+_c = _load("libm.so.6", {"fegetenv": (ctypes.c_int, [_ENVIRONMENT]), "fesetenv": (ctypes.c_int, [_ENVIRONMENT])})
+
+
+@contextlib.contextmanager
+def _default_arithmetic():
+    """This thread's arithmetic as the library's proofs have it; afterwards as it was, with the flags of exceptions raised before.
+
+    C's FE_DFL_ENV would not do: it lets the trap of subnormal operands stand.
+    """
+    found = Environment()
+    _c.fegetenv(found)
+    default = Environment(found.x87, _DEFAULT)
+    try:
+        _c.fesetenv(default)
+        yield
+    finally:
+        _c.fesetenv(found)
+
+
+def _call(name, *words):
+    """A function of the library. All calls are made here, so that progress and whatever else is the caller's keeps its own arithmetic."""
+    with _default_arithmetic():
+        return getattr(_library, name)(*words)
+
 
 # Stands in for the address of an empty list, since the library takes no NULL.
 _NOTHING = np.zeros(1, np.uint64)
@@ -159,7 +209,7 @@ def _natural(number):
 
 def _params(rounds, degree, seed_std):
     """The library's defaults, with what was given in their place. The call itself tests them, in document 01's order."""
-    params = _library.threshcinch_params_new()
+    params = _call("threshcinch_params_new")
     if rounds is not None:
         params.rounds = _natural(rounds)
     if degree is not None:
@@ -218,32 +268,32 @@ def _accept(verdict):
 
 
 def _one_call(dims, params, words):
-    embedded = _library.threshcinch_spectral_embedding(dims, params, *words)
+    embedded = _call("threshcinch_spectral_embedding", dims, params, *words)
     _accept(embedded.verdict)
     return embedded.counts
 
 
 def _stage(state, chunks, words, progress):
     """Does every chunk of the state's stage and closes it: answers the next state."""
-    accepted = _library.threshcinch_calls_accepted(state)
-    owed = _library.threshcinch_calls_owed(state)
+    accepted = _call("threshcinch_calls_accepted", state)
+    owed = _call("threshcinch_calls_owed", state)
     for number in range(chunks):
         progress(accepted + number, owed - number)
-        _accept(_library.threshcinch_chunk(state, number, *words).verdict)
+        _accept(_call("threshcinch_chunk", state, number, *words).verdict)
     progress(accepted + chunks, owed - chunks)
-    answer = _library.threshcinch_close(state, *words)
+    answer = _call("threshcinch_close", state, *words)
     _accept(answer.verdict)
     return answer.state
 
 
 def _held_run(dims, params, words, progress):
-    answer = _library.threshcinch_open(dims, params, *words)
+    answer = _call("threshcinch_open", dims, params, *words)
     _accept(answer.verdict)
     state = answer.state
-    chunks = _library.threshcinch_chunk_count(state.asked.rows)
+    chunks = _call("threshcinch_chunk_count", state.asked.rows)
     while 1 <= state.progress.stage <= 19:
         state = _stage(state, chunks, words, progress)
-    progress(_library.threshcinch_calls_accepted(state), _library.threshcinch_calls_owed(state))
+    progress(_call("threshcinch_calls_accepted", state), _call("threshcinch_calls_owed", state))
     return state.counts
 
 
@@ -270,11 +320,13 @@ def spectral_embedding(graph, dims=2, rounds=None, degree=None, seed_std=None, p
     (conversions, sums, transposes): the same graph made another way may give another last bit.
     """
     starts, columns, values = _stored(graph)
-    sizes = _library.threshcinch_lent_sizes(_natural(dims), starts.size - 1, columns.size)
+    sizes = _call("threshcinch_lent_sizes", _natural(dims), starts.size - 1, columns.size)
     _accept(sizes.verdict)
-    params = _params(rounds, degree, seed_std)
+    with _default_arithmetic():  # numbers of other kinds become float64 here
+        params = _params(rounds, degree, seed_std)
+        graph_lists = _lists(starts, columns, values)
     memory = [np.empty(length, kind) for length, kind in zip(sizes.lengths, MEMORY_KINDS)]
-    lists = _lists(starts, columns, values) + memory
+    lists = graph_lists + memory
     words = _words(lists)
     if progress is None:
         counts = _one_call(_natural(dims), params, words)

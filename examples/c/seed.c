@@ -1,9 +1,28 @@
-/* From a graph to a seed: two groups of three rows with one weak link between them. */
+/* From a graph to a seed: two groups of three rows with one weak link between them.
+ * Status: 0, or 1 with a refusal, or 2 where there is no memory, or no way to write the seed. */
+#include <inttypes.h>
 #include <stdio.h>
 
 #include "threshcinch.h"
 
 enum { DIMS = 2, ROWS = 6, ENTRIES = 14 };
+
+static int refused(threshcinch_verdict verdict) {
+  if (verdict.number) fprintf(stderr, "seed: refusal %" PRIu64 " at %" PRIu64 ": %s\n", verdict.number, verdict.place, threshcinch_words(verdict.number));
+  return verdict.number != 0;
+}
+
+static int print_seed(const threshcinch_memory *memory, threshcinch_counts counts) {
+  for (size_t row = 0; row < ROWS; row++) printf("row %zu: %13.6e %13.6e\n", row, memory->output[row * DIMS], memory->output[row * DIMS + 1]);
+  printf("passes %zu, columns refreshed %zu, zeroed %zu, isolated rows %zu\n", counts.passes, counts.refreshed, counts.zeroed, counts.isolated);
+  return fflush(stdout) || ferror(stdout) ? 2 : 0;
+}
+
+/* Computes and prints the seed in memory that stays the caller's. */
+static int seed_in(const threshcinch_graph *graph, const threshcinch_memory *memory) {
+  const threshcinch_embedded embedded = threshcinch_embed(DIMS, threshcinch_params_new(), graph, memory);
+  return refused(embedded.verdict) ? 1 : print_seed(memory, embedded.counts);
+}
 
 int main(void) {
   /* row i's neighbours are columns[starts[i]] up to columns[starts[i + 1] - 1]; each link stands in both of its rows */
@@ -12,19 +31,14 @@ int main(void) {
   const double values[ENTRIES] = {1.0, 0.5, 1.0, 0.75, 0.5, 0.75, 0.125, 0.125, 1.0, 0.25, 1.0, 0.5, 0.25, 0.5};
   const threshcinch_graph graph = threshcinch_graph_of(ROWS, starts, ENTRIES, columns, values);
 
+  const threshcinch_sizes sizes = threshcinch_lent_sizes(DIMS, ROWS, ENTRIES);
+  if (refused(sizes.verdict)) return 1;
   threshcinch_memory memory;
-  if (!threshcinch_memory_new(&memory, threshcinch_lent_sizes(DIMS, ROWS, ENTRIES))) {
+  if (!threshcinch_memory_new(&memory, sizes)) {
     fprintf(stderr, "seed: out of memory\n");
-    return 1;
+    return 2;
   }
-  const threshcinch_embedded embedded = threshcinch_embed(DIMS, threshcinch_params_new(), &graph, &memory);
-  if (embedded.verdict.number) {
-    fprintf(stderr, "seed: refusal %u: %s\n", (unsigned)embedded.verdict.number, threshcinch_words(embedded.verdict.number));
-    return 1;
-  }
-  for (size_t row = 0; row < ROWS; row++) printf("row %zu: %13.6e %13.6e\n", row, memory.output[row * DIMS], memory.output[row * DIMS + 1]);
-  printf("passes %zu, columns refreshed %zu, zeroed %zu, isolated rows %zu\n", embedded.counts.passes, embedded.counts.refreshed,
-         embedded.counts.zeroed, embedded.counts.isolated);
+  const int status = seed_in(&graph, &memory);
   threshcinch_memory_free(&memory);
-  return 0;
+  return status;
 }
