@@ -4,7 +4,7 @@
  * contract (crates/threshcinch; the definitions that it cites are document 01's, in crates/definition and crates/machine). None asks for
  * anything first, except what C itself leaves to the caller: a list's address and length must be those of memory that is there, aligned for
  * its elements, and a list that is written must overlap no other list of the call; and the thread must have the stack that a call takes:
- * about 54 KB (closing 54, the one call 43, a chunk 41, opening 18; bindings/c/stack.c measures them).
+ * about 55,000 bytes (closing 54,700, the one call 43,500, a chunk 41,200, opening 18,000; bindings/c/stack.c measures them).
  *
  * Call the short forms: threshcinch_embed, threshcinch_run_open, _run_chunk, _run_close, _run_accepted and _run_owed, and
  * threshcinch_set_seed_std. They are a few lines around the library's own functions, the long forms, and see to two things that the proofs
@@ -213,9 +213,8 @@ THRESHCINCH_API size_t threshcinch_calls_accepted(threshcinch_state state);
 THRESHCINCH_API size_t threshcinch_calls_owed(threshcinch_state state);
 
 /* ---- the calls as the library has them, the long forms: each list as address and length in elements, in document 01's order. Most callers
- * want the short forms further below. They need MXCSR at its default, 0x1F80 (threshcinch_arithmetic_begin sets it): in another rounding
- * direction, or with subnormal numbers flushed to zero, the bits are others. They take no NULL, whatever the length: an empty list has length 0 and
- * any other address. */
+ * want the short forms further below. A long form needs MXCSR at its default, 0x1F80 (threshcinch_arithmetic_begin sets it), or its bits are
+ * others. It takes no NULL, whatever the length: an empty list has length 0 and any other address. */
 
 THRESHCINCH_API threshcinch_embedded threshcinch_spectral_embedding(
     uint64_t d, threshcinch_params params,

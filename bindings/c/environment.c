@@ -1,7 +1,8 @@
 /* environment: in every floating-point environment the short forms give the bits of the default one, and leave it as it was.
  *
  * The graph (check.h) is a ring of subnormal values, two chunks long. In each environment that can change the bits the long form must change
- * them here, so that a short form that sets nothing would be found out.
+ * them here, so that a short form that sets nothing would be found out. (Not so for opening and the setter: as they are compiled today, their
+ * tests go by bits, and no environment reaches them. They are called in each all the same.)
  * Status: 0, or 1 with the first thing that is wrong.
  */
 #define _POSIX_C_SOURCE 200809L
@@ -138,8 +139,7 @@ static void try_unguarded(const Environment *environment, const Expected *expect
   threshcinch_memory_free(&outcome.memory);
 }
 
-/* The least subnormal number is positive and finite. The library's code happens to test it by its bits, so that the long form is right as well:
-   what shows here is that the register comes back. */
+/* The least subnormal number is positive and finite. */
 static void try_setter(const Environment *environment) {
   const double least = number_of_bits(1);
   const threshcinch_params params = threshcinch_params_new();
@@ -151,21 +151,31 @@ static void try_setter(const Environment *environment) {
   if (memcmp(&set.params.seed_std, &least, sizeof least)) fail("%s: seed_std is not what was set", environment->name);
 }
 
-/* A state whose alpha is subnormal: in its range, above 0. Where it reads as zero the long form takes the state for damaged. */
-static void try_progress(const Environment *environment, const Expected *expected) {
+/* A state in its second stage whose alpha is subnormal: in its range, above 0. */
+static threshcinch_state with_subnormal_alpha(const Expected *expected) {
   threshcinch_memory memory = memory_for(DIMS, &expected->graph);
   threshcinch_answer opened = threshcinch_run_open(DIMS, expected->params, &expected->graph, &memory);
   accept("opening", opened.verdict);
+  opened.state.progress.stage = 2;
   opened.state.progress.alpha = number_of_bits(1);
-  const size_t owed = threshcinch_calls_owed(opened.state);
-  _mm_setcsr(environment->mxcsr);
-  const size_t told = threshcinch_run_owed(&opened.state);
-  as_found(environment, "calls owed");
-  const size_t bare = environment->unguarded == TRAPS ? owed : threshcinch_calls_owed(opened.state);
-  _mm_setcsr(THRESHCINCH_MXCSR);
-  if (!owed || told != owed) fail("%s: %zu calls owed, not %zu", environment->name, told, owed);
-  if (bare != (environment->reads_zeros ? 0 : owed)) fail("%s: the long form tells %zu calls owed of %zu", environment->name, bare, owed);
   threshcinch_memory_free(&memory);
+  return opened.state;
+}
+
+/* Where alpha reads as zero, the long forms take the state for damaged. */
+static void try_progress(const Environment *environment, const Expected *expected) {
+  const threshcinch_state state = with_subnormal_alpha(expected);
+  const size_t accepted = threshcinch_calls_accepted(state), owed = threshcinch_calls_owed(state);
+  _mm_setcsr(environment->mxcsr);
+  const size_t accepted_here = threshcinch_run_accepted(&state);
+  as_found(environment, "calls accepted");
+  const size_t owed_here = threshcinch_run_owed(&state);
+  as_found(environment, "calls owed");
+  const size_t bare = environment->unguarded == TRAPS ? owed : threshcinch_calls_owed(state);
+  _mm_setcsr(THRESHCINCH_MXCSR);
+  if (!accepted || accepted_here != accepted) fail("%s: %zu calls accepted, not %zu", environment->name, accepted_here, accepted);
+  if (!owed || owed_here != owed) fail("%s: %zu calls owed, not %zu", environment->name, owed_here, owed);
+  if (bare != (environment->reads_zeros ? 0 : owed)) fail("%s: the long form tells %zu calls owed of %zu", environment->name, bare, owed);
 }
 
 typedef struct {

@@ -9,7 +9,7 @@
 
 #include "check.h"
 
-enum { STACK = 96 * 1024, PATTERN = 0xA5, SAID = 56 * 1024 };
+enum { STACK = 96 * 1024, PATTERN = 0xA5, SAID = 56000 };
 
 /* A call to be made, and the frame that made it. */
 typedef struct Call {
