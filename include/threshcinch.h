@@ -1,10 +1,13 @@
 /* threshcinch.h: the spectral seed of a neighbour graph, for C11 and C++11 or later on x86-64.
  *
- * Link target/library/libthreshcinch.a or libthreshcinch.so, which library/build writes. Every function of the library is proved to meet its
- * contract (crates/threshcinch; the definitions that it cites are document 01's, in crates/definition and crates/machine). None asks for
- * anything first, except what C itself leaves to the caller: a list's address and length must be those of memory that is there, aligned for
- * its elements, and a list that is written must overlap no other list of the call; and the thread must have the stack that a call takes:
- * about 55,000 bytes (closing 54,700, the one call 43,500, a chunk 41,200, opening 18,000; bindings/c/stack.c measures them).
+ * Link target/library/libthreshcinch.a or libthreshcinch.so, which library/build writes and library/install puts in place; then
+ * `pkg-config --cflags --libs threshcinch` says where. examples/c/seed.c is a whole program.
+ *
+ * Every function of the library is proved to meet its contract (crates/threshcinch; the definitions that it cites are document 01's, in
+ * crates/definition and crates/machine). None asks for anything first, except what C itself leaves to the caller: a list's address and
+ * length must be those of memory that is there, aligned for its elements, and a list that is written must overlap no other list of the call;
+ * and the thread must have the stack that a call takes: about 55,000 bytes (closing 54,700, the one call 43,500, a chunk 41,200, opening
+ * 18,000; bindings/c/stack.c measures them).
  *
  * Call the short forms: threshcinch_embed, threshcinch_run_open, _run_chunk, _run_close, _run_accepted and _run_owed, and
  * threshcinch_set_seed_std. They are a few lines around the library's own functions, the long forms, and see to two things that the proofs
@@ -28,7 +31,7 @@
  * - threshcinch_chunk on the same state, graph and memory, as long as no two calls that run at once have the same chunk number. It reads
  *   nothing that another chunk of its stage writes and writes only its own rows, entries, partial and mark: proved in crates/threads for
  *   the definition of the work, which the code is proved to do (own-once, writes-own and reads-own; for a whole call call-writes-own and
- *   call-reads-own). What is not proved is which loads the compiled code makes; examples/threads.c has been run under valgrind's helgrind
+ *   call-reads-own). What is not proved is which loads the compiled code makes; examples/c/threads.c has been run under valgrind's helgrind
  *   and drd.
  * - NOT beside chunk calls of the same run: threshcinch_close, threshcinch_open, threshcinch_spectral_embedding, or anything else that
  *   touches the lent memory. Join the chunk calls first.
@@ -66,6 +69,14 @@ extern "C" {
 #else
 #define THRESHCINCH_ASSERT(what) _Static_assert(what, #what)
 #endif
+
+/* ---- the version: this header's, and the library's own, which is that of the header that it was built with. The two differ where a program
+ * runs with another shared library than it was compiled for. The first number is also in the shared library's name (its soname): it rises
+ * whenever a program that was linked before would go wrong, so that such a program does not find the new one. */
+
+#define THRESHCINCH_VERSION "0.1.0"
+
+THRESHCINCH_API const char *const threshcinch_version;
 
 /* ---- refusals: document 01's numbers. 0 is no refusal. The place is 0 unless said. */
 enum threshcinch_refusal {

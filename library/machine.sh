@@ -6,6 +6,7 @@
 #
 #   machine_files              makes sure that the three standard files are open; fails where the output is closed
 #   machine_native             succeeds on x86-64
+#   machine_need_native WHY    succeeds on x86-64; elsewhere says in a line that it is needed, and fails
 #   machine_packages NAME...   installs the missing ones among these Debian packages, or says which are missing if not root
 #   machine_cc                 prints the C compiler for x86-64
 #   machine_tool NAME          prints ar, nm, objcopy, ld, ... for x86-64 objects
@@ -38,13 +39,16 @@ machine_write() {
 }
 
 # The next file or pipe that is opened takes the place of a standard file that is closed: a pipe of $( ) would be read as the input.
+# Where number 2 is closed, bash has itself opened the script as that.
 machine_files() {
-  [ -e /dev/fd/2 ] || exec 2>/dev/null
+  if [ ! -e /dev/fd/2 ] || [ /dev/fd/2 -ef "$0" ]; then exec 2>/dev/null; fi
   [ -e /dev/fd/0 ] || exec </dev/null
   [ -e /dev/fd/1 ] || machine_fail 'standard output is closed'
 }
 
 machine_native() { [ "$(uname -m)" = x86_64 ]; }
+
+machine_need_native() { machine_native || machine_fail "needs x86-64: $1 ($(uname -m))"; }
 
 # Where Debian's libc6-amd64-cross puts the C library and its loader.
 machine_prefix=/usr/x86_64-linux-gnu
