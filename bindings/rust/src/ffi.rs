@@ -1,6 +1,7 @@
 //! include/threshcinch.h in Rust: the records that cross by value, and the calls. They are the header's long forms, so they are made in
 //! `arithmetic::in_default` alone.
 
+use std::ffi::c_char;
 use std::mem::{offset_of, size_of};
 
 /// What was asked at the opening of a run.
@@ -140,6 +141,7 @@ const _: () = {
 };
 
 extern "C" {
+    pub(crate) static threshcinch_version: *const c_char;
     pub(crate) fn threshcinch_params_new() -> RawParams;
     pub(crate) fn threshcinch_params_rounds(params: RawParams, rounds: u64) -> Set;
     pub(crate) fn threshcinch_params_degree(params: RawParams, degree: u64) -> Set;

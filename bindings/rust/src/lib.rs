@@ -16,13 +16,15 @@
 //! # Ok::<(), threshcinch::Refusal>(())
 //! ```
 //!
-//! Nothing here panics, whatever it is given. Input that cannot be taken is a [`Refusal`].
+//! Nothing here panics, whatever it is given. Input that cannot be taken is a [`Refusal`]: a number and a place, the number also as a
+//! [`Reason`] to match on.
 //!
 //! Every call of the library, in each thread, is made in the default floating-point environment, whatever the thread has: rounding to nearest,
 //! subnormal numbers kept, no traps. Afterwards the environment is as it was, its exception flags too.
 //!
 //! The library is linked from the folder that the environment variable `THRESHCINCH_LIB` names when the crate is built, the one that holds
-//! libthreshcinch.a and libthreshcinch.so, or else from the repository's target/library, where library/build writes them.
+//! libthreshcinch.a and libthreshcinch.so (PREFIX/lib of library/install), or else from the repository's target/library, where library/build
+//! writes them. [`library_version`] says which one it was.
 #![deny(missing_docs)]
 #![deny(unsafe_op_in_unsafe_fn)]
 
@@ -35,14 +37,16 @@ mod params;
 mod refusal;
 mod run;
 mod save;
+mod version;
 
 pub use drive::Driven;
 pub use ffi::{Asked, Counts, State, StateProgress};
 pub use memory::{Graph, Memory};
 pub use params::Params;
-pub use refusal::Refusal;
+pub use refusal::{Reason, Refusal};
 pub use run::{Progress, Run};
 pub use save::LoadError;
+pub use version::{library_version, VERSION};
 
 use std::ops::ControlFlow;
 
@@ -93,5 +97,5 @@ pub fn spectral_embedding_with_threads(graph: &Graph<'_>, dims: usize, params: P
     let mut run = Run::open(graph, dims, params)?;
     run.drive(threads, |_| ControlFlow::Continue(()))?;
     // Cannot be met: a run that was driven and never told to stop has ended. No run is open is what the library would say.
-    run.finish().map_err(|_| Refusal { number: Refusal::NO_RUN, place: 0 })
+    run.finish().map_err(|_| Reason::NoRun.at(0))
 }

@@ -2,7 +2,7 @@
 
 use crate::arithmetic::in_default;
 use crate::ffi::{self, Answer, Embedded, State};
-use crate::{Params, Refusal};
+use crate::{Params, Reason, Refusal};
 
 /// A graph of neighbours, as rows of entries. Nothing is tested here: the library tests it whenever a run begins.
 #[derive(Clone, Copy, Debug)]
@@ -106,7 +106,7 @@ fn zeros<T: Clone + Default>(place: usize, lengths: &[usize; 10]) -> Result<Vec<
     let mut list = Vec::new();
     match list.try_reserve_exact(lengths[place]) {
         Ok(()) => list.resize(lengths[place], T::default()),
-        Err(_) => return Err(Refusal { number: Refusal::MEMORY, place: place as u64 }),
+        Err(_) => return Err(Reason::Memory.at(place as u64)),
     }
     Ok(list)
 }

@@ -2,49 +2,140 @@
 
 use crate::ffi::Verdict;
 
+/// Why a call was refused: document 01's numbers as names, to match on. [`Refusal::reason`] answers it.
+///
+/// Later versions may have more of them, so that a `match` needs an arm for the rest. 17, a fault of text, is the text program's alone.
+///
+/// ```
+/// use threshcinch::{spectral_embedding, Graph, Params, Reason};
+///
+/// // A graph of one row, whose entry names column 7.
+/// let refusal = spectral_embedding(&Graph::new(&[0, 1], &[7], &[1.0]), 2, Params::new()).unwrap_err();
+/// match refusal.reason() {
+///     Some(Reason::Column) => println!("entry {} names no row of the graph", refusal.place),
+///     Some(Reason::Value) => println!("entry {} is not finite", refusal.place),
+///     _ => println!("{refusal}"),
+/// }
+/// assert_eq!(refusal.reason(), Some(Reason::Column));
+/// assert_eq!((refusal.number, refusal.place), (6, 0));
+/// ```
+#[derive(Clone, Copy, Debug, PartialEq, Eq, Hash)]
+#[non_exhaustive]
+#[repr(u64)]
+pub enum Reason {
+    /// D is not 1 to 7.
+    Dims = 1,
+    /// Fewer than two row starts.
+    NoRows = 2,
+    /// More rows or columns than allowed.
+    Limits = 3,
+    /// Columns and values differ in length.
+    Lengths = 4,
+    /// The first start is not 0, a start is below the one before, or the last is not the column count. Place: its index.
+    Starts = 5,
+    /// A column is not below the number of rows. Place: the first such entry.
+    Column = 6,
+    /// A value is NaN or infinite. Place: the first such entry.
+    Value = 7,
+    /// Rounds are not 1 to 1,000.
+    Rounds = 8,
+    /// Degree is not 1 to 1,000.
+    Degree = 9,
+    /// The seed's standard deviation is not positive and finite.
+    SeedStd = 10,
+    /// Lent memory is too short, or the machine has not so much. Place: the first such list, 0 to 9.
+    Memory = 11,
+    /// The chunk number is not below the number of chunks. Place: the number offered.
+    NoChunk = 12,
+    /// That chunk is already done in this stage. Place: its number.
+    ChunkDone = 13,
+    /// Closing with a chunk not done. Place: the lowest such.
+    ChunksLeft = 14,
+    /// No run is open.
+    NoRun = 15,
+    /// The state, or a list or mark for it, is damaged. No run from its opening meets it; a forged save may.
+    Damaged = 16,
+}
+
+impl Reason {
+    const ALL: [Reason; 16] = [
+        Reason::Dims,
+        Reason::NoRows,
+        Reason::Limits,
+        Reason::Lengths,
+        Reason::Starts,
+        Reason::Column,
+        Reason::Value,
+        Reason::Rounds,
+        Reason::Degree,
+        Reason::SeedStd,
+        Reason::Memory,
+        Reason::NoChunk,
+        Reason::ChunkDone,
+        Reason::ChunksLeft,
+        Reason::NoRun,
+        Reason::Damaged,
+    ];
+
+    /// Document 01's number.
+    pub const fn number(self) -> u64 {
+        self as u64
+    }
+
+    /// The reason with this number, where there is one.
+    pub fn of_number(number: u64) -> Option<Reason> {
+        Reason::ALL.into_iter().find(|reason| reason.number() == number)
+    }
+
+    /// The reason in words, those of include/threshcinch.h.
+    pub const fn words(self) -> &'static str {
+        match self {
+            Reason::Dims => "dimensions are not 1 to 7",
+            Reason::NoRows => "fewer than two row starts",
+            Reason::Limits => "more rows than 1,048,576 or more entries than 67,108,864",
+            Reason::Lengths => "columns and values differ in length",
+            Reason::Starts => "the row starts do not begin at 0, fall, or do not end at the number of columns",
+            Reason::Column => "a column is not below the number of rows",
+            Reason::Value => "a value is NaN or infinite",
+            Reason::Rounds => "rounds are not 1 to 1,000",
+            Reason::Degree => "degree is not 1 to 1,000",
+            Reason::SeedStd => "seed_std is not positive and finite",
+            Reason::Memory => "lent memory is too short",
+            Reason::NoChunk => "there is no such chunk",
+            Reason::ChunkDone => "that chunk is already done in this stage",
+            Reason::ChunksLeft => "a chunk of this stage is not done yet",
+            Reason::NoRun => "no run is open",
+            Reason::Damaged => "the state, or a list for it, is damaged",
+        }
+    }
+
+    /// What the place counts, for the reasons that have one.
+    const fn place_is(self) -> Option<&'static str> {
+        match self {
+            Reason::Starts => Some("start"),
+            Reason::Column | Reason::Value => Some("entry"),
+            Reason::Memory => Some("list"),
+            Reason::NoChunk | Reason::ChunkDone | Reason::ChunksLeft => Some("chunk"),
+            _ => None,
+        }
+    }
+
+    /// The refusal for this reason at a place.
+    pub(crate) fn at(self, place: u64) -> Refusal {
+        Refusal { number: self.number(), place }
+    }
+}
+
 /// A refusal: document 01's number, and the place that it speaks of. A refused call has changed nothing.
 #[derive(Clone, Copy, Debug, PartialEq, Eq)]
 pub struct Refusal {
-    /// 1 to 16; the constants below name them.
+    /// 1 to 16, as [`Reason`] names them.
     pub number: u64,
     /// An index, an entry, a list or a chunk, as the number has it; 0 where there is none.
     pub place: u64,
 }
 
 impl Refusal {
-    /// D is not 1 to 7.
-    pub const DIMS: u64 = 1;
-    /// Fewer than two row starts.
-    pub const NO_ROWS: u64 = 2;
-    /// More rows or columns than allowed.
-    pub const LIMITS: u64 = 3;
-    /// Columns and values differ in length.
-    pub const LENGTHS: u64 = 4;
-    /// The first start is not 0, a start is below the one before, or the last is not the column count. Place: its index.
-    pub const STARTS: u64 = 5;
-    /// A column is not below the number of rows. Place: the first such entry.
-    pub const COLUMN: u64 = 6;
-    /// A value is NaN or infinite. Place: the first such entry.
-    pub const VALUE: u64 = 7;
-    /// Rounds are not 1 to 1,000.
-    pub const ROUNDS: u64 = 8;
-    /// Degree is not 1 to 1,000.
-    pub const DEGREE: u64 = 9;
-    /// The seed's standard deviation is not positive and finite.
-    pub const SEED_STD: u64 = 10;
-    /// Lent memory is too short, or the machine has not so much. Place: the first such list, 0 to 9.
-    pub const MEMORY: u64 = 11;
-    /// The chunk number is not below the number of chunks. Place: the number offered.
-    pub const NO_CHUNK: u64 = 12;
-    /// That chunk is already done in this stage. Place: its number.
-    pub const CHUNK_DONE: u64 = 13;
-    /// Closing with a chunk not done. Place: the lowest such.
-    pub const CHUNKS_LEFT: u64 = 14;
-    /// No run is open.
-    pub const NO_RUN: u64 = 15;
-    /// The state, or a list or mark for it, is damaged. No run from its opening meets it; a forged save may.
-    pub const DAMAGED: u64 = 16;
-
     /// Nothing if the library accepted.
     pub(crate) fn check(verdict: Verdict) -> Result<(), Refusal> {
         match verdict.number {
@@ -53,45 +144,21 @@ impl Refusal {
         }
     }
 
-    /// The refusal in words, without its place.
-    pub fn words(&self) -> &'static str {
-        match self.number {
-            Refusal::DIMS => "dimensions are not 1 to 7",
-            Refusal::NO_ROWS => "fewer than two row starts",
-            Refusal::LIMITS => "more rows than 1,048,576 or more entries than 67,108,864",
-            Refusal::LENGTHS => "columns and values differ in length",
-            Refusal::STARTS => "the row starts do not begin at 0, fall, or do not end at the number of columns",
-            Refusal::COLUMN => "a column is not below the number of rows",
-            Refusal::VALUE => "a value is NaN or infinite",
-            Refusal::ROUNDS => "rounds are not 1 to 1,000",
-            Refusal::DEGREE => "degree is not 1 to 1,000",
-            Refusal::SEED_STD => "seed_std is not positive and finite",
-            Refusal::MEMORY => "lent memory is too short",
-            Refusal::NO_CHUNK => "there is no such chunk",
-            Refusal::CHUNK_DONE => "that chunk is already done in this stage",
-            Refusal::CHUNKS_LEFT => "a chunk of this stage is not done yet",
-            Refusal::NO_RUN => "no run is open",
-            Refusal::DAMAGED => "the state, or a list for it, is damaged",
-            _ => "no refusal has this number",
-        }
+    /// The number as a name; nothing for a number that this crate does not know.
+    pub fn reason(&self) -> Option<Reason> {
+        Reason::of_number(self.number)
     }
 
-    /// What the place counts, for the numbers that have one.
-    fn place_is(&self) -> Option<&'static str> {
-        match self.number {
-            Refusal::STARTS => Some("start"),
-            Refusal::COLUMN | Refusal::VALUE => Some("entry"),
-            Refusal::MEMORY => Some("list"),
-            Refusal::NO_CHUNK | Refusal::CHUNK_DONE | Refusal::CHUNKS_LEFT => Some("chunk"),
-            _ => None,
-        }
+    /// The refusal in words, without its place.
+    pub fn words(&self) -> &'static str {
+        self.reason().map_or("no refusal has this number", Reason::words)
     }
 }
 
 impl std::fmt::Display for Refusal {
     fn fmt(&self, to: &mut std::fmt::Formatter<'_>) -> std::fmt::Result {
         write!(to, "refusal {}: {}", self.number, self.words())?;
-        match self.place_is() {
+        match self.reason().and_then(Reason::place_is) {
             Some(what) => write!(to, " ({what} {})", self.place),
             None => Ok(()),
         }

@@ -17,7 +17,7 @@
 //! not forgers. What a forger can reach is a run that meets refusal 16 or has another seed: the library asks for nothing first.
 
 use crate::ffi::{Asked, Counts, State, StateProgress};
-use crate::{Graph, Memory, Refusal, Run};
+use crate::{Graph, Memory, Reason, Refusal, Run};
 
 const LETTERS: [u8; 8] = *b"TCINCHRN";
 const VERSION: u64 = 1;
@@ -106,11 +106,13 @@ impl<'g> Run<'g> {
     /// and touches nothing. A chunk's own mark and columns it tests when that chunk is called.
     fn taken_by_the_library(mut self) -> Result<Run<'g>, LoadError> {
         const ENDED: usize = 20;
-        match self.chunk(usize::MAX) {
-            Err(Refusal { number: Refusal::NO_CHUNK, .. }) => Ok(self),
-            Err(Refusal { number: Refusal::NO_RUN, .. }) if self.state.progress.stage == ENDED => Ok(self),
-            Err(refusal) => Err(LoadError::Refused(refusal)),
-            Ok(()) => Err(LoadError::Lists),
+        let Err(refusal) = self.chunk(usize::MAX) else {
+            return Err(LoadError::Lists);
+        };
+        match refusal.reason() {
+            Some(Reason::NoChunk) => Ok(self),
+            Some(Reason::NoRun) if self.state.progress.stage == ENDED => Ok(self),
+            _ => Err(LoadError::Refused(refusal)),
         }
     }
 }
@@ -149,7 +151,7 @@ fn check_graph(head: &Head, graph: &Graph<'_>) -> Result<(), LoadError> {
 /// The state's sizes are the graph's, and the lists have the lengths that the library names for them.
 fn check_lengths(graph: &Graph<'_>, state: &State, lengths: &[u64; 10]) -> Result<(), LoadError> {
     let asked = &state.asked;
-    let damaged = |_| LoadError::Refused(Refusal { number: Refusal::DAMAGED, place: 0 });
+    let damaged = |_| LoadError::Refused(Reason::Damaged.at(0));
     let needed = Memory::lengths_for(asked.dims, asked.rows, asked.entries).map_err(damaged)?;
     let whole_graph = asked.rows == graph.rows() && asked.entries == graph.columns.len() && asked.entries == graph.values.len();
     if !whole_graph || needed.map(|length| length as u64) != *lengths {

@@ -4,7 +4,9 @@
 mod common;
 
 use common::{quick, refusal};
-use threshcinch::{spectral_embedding, spectral_embedding_in, spectral_embedding_with_threads, Graph, Memory, Params, Refusal, Run};
+use threshcinch::{
+    spectral_embedding, spectral_embedding_in, spectral_embedding_with_threads, Graph, Memory, Params, Reason, Refusal, Run,
+};
 
 /// All ways to begin refuse the same.
 fn begin(graph: Graph<'_>, dims: usize) -> Refusal {
@@ -136,4 +138,44 @@ fn words() {
     assert_eq!(refusal(6, 4).to_string(), "refusal 6: a column is not below the number of rows (entry 4)");
     assert_eq!(refusal(15, 0).to_string(), "refusal 15: no run is open");
     let _: &dyn std::error::Error = &refusal(1, 0);
+}
+
+const HEADER: &str = include_str!("../../../include/threshcinch.h");
+
+/// What stands between the two texts, on the header's first line that has both.
+fn header_line(before: &str, after: &str) -> Option<&'static str> {
+    HEADER.lines().find_map(|line| line.trim().strip_prefix(before)?.split_once(after).map(|(between, _)| between))
+}
+
+/// `NoRows` as the header writes it: `NO_ROWS`.
+fn header_name(reason: Reason) -> String {
+    let mut name = String::new();
+    for letter in format!("{reason:?}").chars() {
+        if letter.is_uppercase() && !name.is_empty() {
+            name.push('_');
+        }
+        name.push(letter.to_ascii_uppercase());
+    }
+    name
+}
+
+#[test]
+fn reasons_are_the_headers() {
+    for number in 1..=16 {
+        let reason = Reason::of_number(number).expect("a reason for each number");
+        assert_eq!(reason.number(), number);
+        let named = header_line(&format!("THRESHCINCH_{} = ", header_name(reason)), ",");
+        assert_eq!(named, Some(number.to_string().as_str()), "{reason:?} in the header");
+        assert_eq!(header_line(&format!("case {number}: return \""), "\";"), Some(reason.words()));
+    }
+    assert!([0, 17, 18, u64::MAX].into_iter().all(|number| Reason::of_number(number).is_none()));
+}
+
+#[test]
+fn a_refusal_has_its_reason() {
+    assert_eq!(begin(Graph::new(&[0, 1], &[1], &[1.0]), 1).reason(), Some(Reason::Column));
+    assert_eq!(Params::new().rounds(0).unwrap_err().reason(), Some(Reason::Rounds));
+    assert_eq!(Params::new().degree(1001).unwrap_err().reason(), Some(Reason::Degree));
+    assert_eq!(Params::new().seed_std(f64::NAN).unwrap_err().reason(), Some(Reason::SeedStd));
+    assert_eq!(refusal(17, 3).reason(), None);
 }
