@@ -16,6 +16,7 @@
 #   machine_write TEXT         writes it to standard output, or says in a line why it could not be written, and fails
 #   machine_say WORDS          a line on standard error, under the script's name; what cannot be said there is no failure
 #   machine_fail WORDS         the same, and fails
+#   machine_misused            what the script's own function usage prints, on standard error; ends the script with status 2
 #
 # What apt-get says goes to stderr, so that $(machine_cc) is the compiler's name alone.
 
@@ -31,6 +32,8 @@ machine_print() { (trap '' PIPE; printf '%s' "$1") >&2 2>/dev/null || :; }
 machine_say() { machine_print "$machine_script: $*"$'\n'; }
 
 machine_fail() { machine_say "$@"; return 1; }
+
+machine_misused() { machine_print "$(usage)"$'\n'; exit 2; }
 
 # A reader that has gone away is a reason as others are, and no signal. The shell's own words end with the reason.
 machine_write() {
