@@ -88,8 +88,8 @@ impl Subnormal {
     fn new(rows: u32) -> Subnormal {
         let around = |row: u32| [1, rows - 1, 3, rows - 3].map(|step| (row + step) % rows);
         let value = |low: u32, high: u32| {
-            let mixed = (u64::from(low) << 32 | u64::from(high)).wrapping_add(1).wrapping_mul(0x9e37_79b9_7f4a_7c15);
-            f64::from_bits((mixed ^ mixed >> 29).wrapping_mul(0xbf58_476d_1ce4_e5b9) >> 12)
+            let mixed = ((u64::from(low) << 32) | u64::from(high)).wrapping_add(1).wrapping_mul(0x9e37_79b9_7f4a_7c15);
+            f64::from_bits((mixed ^ (mixed >> 29)).wrapping_mul(0xbf58_476d_1ce4_e5b9) >> 12)
         };
         Subnormal {
             starts: (0..=u64::from(rows)).map(|row| 4 * row).collect(),

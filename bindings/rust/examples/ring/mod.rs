@@ -39,7 +39,7 @@ impl Ring {
 
 /// Between 0.5 and 1.5.
 fn value(low: u32, high: u32, salt: u64) -> f64 {
-    let mixed = (u64::from(low) << 32 | u64::from(high)).wrapping_add(salt).wrapping_mul(0x9e37_79b9_7f4a_7c15);
+    let mixed = ((u64::from(low) << 32) | u64::from(high)).wrapping_add(salt).wrapping_mul(0x9e37_79b9_7f4a_7c15);
     0.5 + ((mixed ^ (mixed >> 29)).wrapping_mul(0xbf58_476d_1ce4_e5b9) >> 11) as f64 / (1u64 << 53) as f64
 }
 
