@@ -8,6 +8,7 @@ import sys
 
 import numpy as np
 from scipy import sparse
+from scipy.sparse import csgraph
 from sklearn import datasets
 
 
@@ -102,7 +103,7 @@ def main(folder):
     for name, make in GRAPHS.items():
         graph = make()
         sparse.save_npz(folder / f"{name}.npz", graph)
-        parts = sparse.csgraph.connected_components(graph)[0]
+        parts = csgraph.connected_components(graph)[0]
         print(f"{name}: {graph.shape[0]} rows, {graph.nnz} entries, {parts} component{'s' * (parts > 1)}")
 
 

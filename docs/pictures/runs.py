@@ -10,7 +10,8 @@ GRIDS = {
 
 # graphs on which columns collapse, with the parameters that are not the defaults
 COLLAPSES = [("complete", {}), ("star", {}), ("six", {})]
-COLLAPSES += [("clusters", {"degree": 200}), ("clusters", {"degree": 500}), ("clusters", {"degree": 1000}), ("digits", {"degree": 1000})]
+COLLAPSES += [("clusters", {"degree": degree}) for degree in (200, 500, 1000)]
+COLLAPSES += [("clusters", {"rounds": 20, "degree": 1000}), ("digits", {"degree": 1000})]
 
 SEED_STDS = (1e-4, 1.0, 1e-310)
 
