@@ -1,4 +1,4 @@
-"""From points to a seed: a neighbour graph with SciPy, then its spectral seed."""
+"""From points to a seed: a neighbour graph with SciPy, its spectral seed, and the digests by which others see that they have the same."""
 import numpy as np
 import threshcinch
 from scipy import sparse, spatial
@@ -9,9 +9,13 @@ distances, neighbours = spatial.cKDTree(points).query(points, k=11)
 weights = 1 / (1 + distances[:, 1:] ** 2)
 graph = sparse.csr_matrix((weights.ravel(), neighbours[:, 1:].ravel(), np.arange(0, 3001, 10)), shape=(300, 300))
 
-# a neighbour of one is made a neighbour of both, so that the graph is symmetric
-seed, counts = threshcinch.spectral_embedding(graph + graph.T, dims=2)
+# a neighbour of one is made a neighbour of both, so that the graph is symmetric; the order of entries counts to the last bit
+graph = (graph + graph.T).tocsr()
+graph.sum_duplicates()
+seed, counts = threshcinch.spectral_embedding(graph, dims=2)
 
 print(counts)
 for heap in range(3):
     print("heap", heap, "lies around", seed[100 * heap : 100 * heap + 100].mean(axis=0))
+print("graph", threshcinch.graph_digest(graph))
+print("seed ", threshcinch.seed_digest(seed))

@@ -1,4 +1,4 @@
-"""Tests of threshcinch.py over the library: documents' cases, the oracle's stored seeds, refusals, and what the binding itself decides."""
+"""Tests of the package over the library: documents' cases, the oracle's stored seeds, refusals, and what the binding itself decides."""
 import contextlib
 import ctypes
 import os
@@ -16,90 +16,9 @@ import numpy as np
 from scipy import sparse
 
 import threshcinch
-from threshcinch import Counts, Refusal, spectral_embedding
+from threshcinch import Counts, Refusal, _graph, _library, _refusal, spectral_embedding
 
-HERE = pathlib.Path(__file__).resolve().parent
-ROOT = HERE.parents[1]
-VECTORS = ROOT / "oracle" / "vectors"
-NAN = 0x7FF8000000000000
-
-
-def csr(starts, columns, values):
-    """A matrix of just these arrays; SciPy's constructor keeps their order."""
-    rows = len(starts) - 1
-    arrays = (np.array(values, np.float64), np.array(columns, np.int32), np.array(starts, np.int32))
-    return sparse.csr_matrix(arrays, shape=(rows, rows))
-
-
-def bits(seed):
-    """The numbers' bits, every NaN as the oracle writes it."""
-    found = np.ascontiguousarray(seed).view(np.uint64).copy()
-    found[np.isnan(seed)] = NAN
-    return found
-
-
-def random_graph(rows, neighbours, number):
-    """A symmetric graph with positive weights."""
-    chance = np.random.default_rng(number)
-    left = np.repeat(np.arange(rows), neighbours)
-    right = chance.integers(0, rows, left.size)
-    weights = chance.random(left.size) + 0.1
-    half = sparse.coo_matrix((weights, (left, right)), shape=(rows, rows)).tocsr()
-    return (half + half.T).tocsr()
-
-
-def splitmix(index):
-    """Document 01's hash, before it becomes a float."""
-    low = 2**64 - 1
-    z = (index + 0x9E3779B97F4A7C15) & low
-    z = ((z ^ z >> 30) * 0xBF58476D1CE4E5B9) & low
-    z = ((z ^ z >> 27) * 0x94D049BB133111EB) & low
-    return z ^ z >> 31
-
-
-def ring(rows, number):
-    """The oracle's graph `big ROWS NUMBER`, where NUMBER is no multiple of 4."""
-    columns, values = [], []
-    for i in range(rows):
-        for j in ((i + turn * s) % rows for s in (1, 2, 3, 4) for turn in (1, -1)):
-            columns.append(j)
-            values.append((splitmix(number * 2**40 + min(i, j) * 2**20 + max(i, j)) >> 11) / 2**53)
-    return csr(range(0, 8 * rows + 1, 8), columns, values)
-
-
-def digest(seed):
-    """FNV-1a over the numbers' bytes, as the oracle's `big` prints it."""
-    found = 0xCBF29CE484222325
-    for byte in bits(seed).tobytes():
-        found = ((found ^ byte) * 0x100000001B3) & (2**64 - 1)
-    return f"{found:016x}"
-
-
-class Watch:
-    """A progress that keeps what it was told."""
-
-    def __init__(self):
-        self.told = []
-
-    def __call__(self, accepted, owed):
-        self.told.append((accepted, owed))
-
-
-class Stop(Exception):
-    pass
-
-
-class Case(unittest.TestCase):
-    def refused(self, number, place, graph, **words):
-        for progress in (None, lambda accepted, owed: None):
-            with self.assertRaises(Refusal) as caught:
-                spectral_embedding(graph, progress=progress, **words)
-            self.assertEqual((caught.exception.number, caught.exception.place), (number, place))
-            self.assertEqual(caught.exception.words, threshcinch.WORDS[number])
-
-    def same(self, one, other):
-        np.testing.assert_array_equal(bits(one[0]), bits(other[0]))
-        self.assertEqual(one[1], other[1])
+from .common import PACKAGE, ROOT, VECTORS, Case, Stop, Watch, bits, csr, digest, random_graph, ring, splitmix
 
 
 class Document01(Case):
@@ -350,7 +269,7 @@ class Graphs(Case):
     def test_no_list_is_null(self):
         """Arrays that other software lends to NumPy may have no address if they are empty."""
         empty = types.SimpleNamespace(size=0, ctypes=types.SimpleNamespace(data=0))
-        address, length = threshcinch._words([empty])
+        address, length = _library.words_of([empty])
         self.assertNotEqual(address, 0)
         self.assertEqual(length, 0)
 
@@ -364,8 +283,11 @@ class Graphs(Case):
         for wrong in (sparse.csr_matrix((3, 4)), sparse.csr_matrix((0, 1))):
             with self.assertRaisesRegex(ValueError, "square"):
                 spectral_embedding(wrong)
-        for wrong in (graph.tocsc(), graph.tocoo(), graph.toarray(), None):
-            with self.assertRaisesRegex(TypeError, "csr_matrix"):
+        for wrong in (graph.toarray(), None):
+            with self.assertRaisesRegex(TypeError, "csr_matrix or csr_array, not [a-zA-Z]+$"):
+                spectral_embedding(wrong)
+        for wrong in (graph.tocsc(), graph.tocoo()):
+            with self.assertRaisesRegex(TypeError, r"csr_matrix.*: graph\.tocsr\(\) makes one$"):
                 spectral_embedding(wrong)
         for kind in (complex, np.longdouble):
             with self.assertRaisesRegex(TypeError, "values"):
@@ -414,21 +336,21 @@ ENVIRONMENTS = {
 
 def register():
     """This thread's control register."""
-    found = threshcinch.Environment()
-    threshcinch._c.fegetenv(found)
+    found = _library.Environment()
+    _library.c.fegetenv(found)
     return found.mxcsr
 
 
 @contextlib.contextmanager
 def environment(mxcsr):
     """The thread with its control register so."""
-    found = threshcinch.Environment()
-    threshcinch._c.fegetenv(found)
-    threshcinch._c.fesetenv(threshcinch.Environment(found.x87, mxcsr))
+    found = _library.Environment()
+    _library.c.fegetenv(found)
+    _library.c.fesetenv(_library.Environment(found.x87, mxcsr))
     try:
         yield
     finally:
-        threshcinch._c.fesetenv(found)
+        _library.c.fesetenv(found)
 
 
 def control(mxcsr):
@@ -463,11 +385,11 @@ class Environments(Case):
 
     def bare_call(self):
         """The library's own function with nothing around it: its arguments, made in the default environment."""
-        params = threshcinch._params(self.words["rounds"], self.words["degree"], None)
-        sizes = threshcinch._call("threshcinch_lent_sizes", 1, self.graph.shape[0], self.graph.nnz)
-        memory = [np.zeros(length, kind) for length, kind in zip(sizes.lengths, threshcinch.MEMORY_KINDS)]
-        lists = threshcinch._lists(*threshcinch._stored(self.graph)) + memory
-        return lists, [1, params] + threshcinch._words(lists)
+        params = _graph.params_of(self.words["rounds"], self.words["degree"], None)
+        sizes = _library.call("threshcinch_lent_sizes", 1, self.graph.shape[0], self.graph.nnz)
+        memory = [np.zeros(length, kind) for length, kind in zip(sizes.lengths, _library.MEMORY_KINDS)]
+        lists = _graph.lists_of(*_graph.stored(self.graph)) + memory
+        return lists, [1, params] + _library.words_of(lists)
 
     def test_the_bare_call_shows_the_environment(self):
         """So that a binding that sets nothing would be found out."""
@@ -475,7 +397,7 @@ class Environments(Case):
         lists, words = self.bare_call()
 
         def work():
-            embedded = threshcinch._library.threshcinch_spectral_embedding(*words)
+            embedded = _library.library.threshcinch_spectral_embedding(*words)
             return embedded.verdict.number, lists[-1].copy()
 
         for name, (number, seed) in self.in_each(work):
@@ -513,7 +435,7 @@ class Environments(Case):
             for flags in (0, 0x15, 0x3F):
                 with environment(control(mxcsr) | flags):
                     before = register()
-                    threshcinch._call("threshcinch_spectral_embedding", *words)
+                    _library.call("threshcinch_spectral_embedding", *words)
                     after = register()
                 self.assertEqual((before, after), (control(mxcsr) | flags,) * 2, name)
 
@@ -522,7 +444,7 @@ class Environments(Case):
             with self.assertRaises(Refusal):
                 spectral_embedding(self.graph, dims=8)
             with self.assertRaises(ctypes.ArgumentError):
-                threshcinch._call("threshcinch_chunk_count", "many")
+                _library.call("threshcinch_calls_owed", "many")
             left = register()
         self.assertEqual(control(left), 0xFFC0)
 
@@ -567,11 +489,11 @@ class Module(Case):
     def kind(self, kind):
         """A field's kind in the header's words; size_t and uint64_t are one kind to ctypes."""
         kind = kind._type_ if issubclass(kind, ctypes.Array) else kind
-        names = {ctypes.c_uint64: "whole", ctypes.c_double: "double", threshcinch.CountsRecord: "threshcinch_counts"}
+        names = {ctypes.c_uint64: "whole", ctypes.c_double: "double"}
         return names.get(kind) or "threshcinch_" + kind.__name__.lower()
 
     def test_records_are_the_headers(self):
-        for record, size in threshcinch.SIZES.items():
+        for record, size in _library.SIZES.items():
             name = self.kind(record)
             with self.subTest(record=name):
                 body = re.search(r"typedef struct \{([^}]*)\} " + name + ";", self.header()).group(1)
@@ -582,10 +504,29 @@ class Module(Case):
     def test_words_are_the_headers(self):
         found = {int(number): words for number, words in re.findall(r'case (\d+): return "([^"]*)";', self.header())}
         del found[0]
-        self.assertEqual(threshcinch.WORDS, found)
+        self.assertEqual(_refusal.WORDS, found)
+
+    def test_public_names(self):
+        """All that is public is named, and all that is named is there."""
+        public = {name for name, what in vars(threshcinch).items() if not name.startswith("_") and not isinstance(what, types.ModuleType)}
+        self.assertEqual(public, set(threshcinch.__all__))
+        for name in public:
+            self.assertTrue(getattr(threshcinch, name).__doc__, name)
+        self.assertEqual([path.name for path in (PACKAGE / "threshcinch").glob("[!_]*.py")], [])
+
+    def test_counts_are_told_with_their_meaning(self):
+        for name in Counts._fields:
+            self.assertRegex(Counts.__doc__, rf"(?m)^    {name} +\w")
+
+    def test_version_is_the_others(self):
+        cargo = (ROOT / "bindings" / "rust" / "Cargo.toml").read_text()
+        self.assertIn(f'version = "{threshcinch.__version__}"', cargo)
+        found = re.search(r'#define THRESHCINCH_VERSION "([^"]*)"', self.header())
+        if found:  # the header has had none so far
+            self.assertEqual(found.group(1), threshcinch.__version__)
 
     def fails(self, code, **words):
-        words = {**os.environ, "PYTHONPATH": str(HERE), **words}
+        words = {**os.environ, "PYTHONPATH": str(PACKAGE), **words}
         done = subprocess.run([sys.executable, "-c", code], env=words, capture_output=True, text=True)
         self.assertEqual(done.returncode, 1)
         last = done.stderr.strip().split("\n")[-1]
@@ -595,11 +536,11 @@ class Module(Case):
 
     def test_no_folder(self):
         """THRESHCINCH_LIB is a folder, for Rust and Python alike: neither the library itself nor something that is not there."""
-        for wrong in (threshcinch._library._name, str(HERE / "nothing")):
+        for wrong in (_library.library._name, str(PACKAGE / "nothing")):
             self.assertIn("THRESHCINCH_LIB must name the folder", self.fails("import threshcinch", THRESHCINCH_LIB=wrong))
 
     def test_no_library(self):
-        self.assertIn("library/build", self.fails("import threshcinch", THRESHCINCH_LIB=str(HERE)))
+        self.assertIn("library/build", self.fails("import threshcinch", THRESHCINCH_LIB=str(PACKAGE)))
 
     def test_a_library_without_the_functions(self):
         with tempfile.TemporaryDirectory() as folder:
@@ -617,8 +558,8 @@ class Module(Case):
         self.assertIn("aarch64", last)
 
     def test_the_library_is_found_in_its_folder(self):
-        folder = os.path.dirname(threshcinch._library._name)
-        words = {**os.environ, "PYTHONPATH": str(HERE), "THRESHCINCH_LIB": folder}
+        folder = os.path.dirname(_library.library._name)
+        words = {**os.environ, "PYTHONPATH": str(PACKAGE), "THRESHCINCH_LIB": folder}
         subprocess.run([sys.executable, "-c", "import threshcinch"], env=words, check=True)
 
 

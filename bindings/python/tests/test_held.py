@@ -1,0 +1,296 @@
+"""The held run: threads, stops, saves and what is refused of them."""
+import os
+import pathlib
+import tempfile
+import threading
+
+import numpy as np
+
+from threshcinch import LoadError, Progress, Refusal, Run, _save, spectral_embedding
+
+from .common import HERE, Case, Stop, Watch, bits, csr, random_graph
+
+# Where the parts of a save begin; threshcinch/_save.py has the table.
+GRAPH_SUM = 40
+LENGTHS = 48
+STATE = 128
+STAGE = STATE + 48
+LISTS = STATE + 5688
+
+
+class Held(Case):
+    def ended(self, run):
+        return run.seed, run.counts
+
+    def test_threads(self):
+        """5 chunks: fewer threads than chunks, and more."""
+        graph = random_graph(16385, 2, 3)
+        words = {"dims": 1, "rounds": 1, "degree": 2}
+        expected = spectral_embedding(graph, **words)
+        for threads in (2, 3, 8):
+            with self.subTest(threads=threads):
+                self.same(spectral_embedding(graph, threads=threads, **words), expected)
+
+    def test_threads_are_started_and_end(self):
+        run = Run.open(random_graph(8193, 2, 3), dims=1, rounds=1, degree=1)
+        before = threading.active_count()
+        seen = []
+        run.drive(3, lambda accepted, owed: seen.append(threading.active_count()))
+        self.assertEqual((max(seen), threading.active_count()), (before + 2, before))
+
+    def test_progress_of_several_threads(self):
+        """From the calling thread alone, never falling, to the end."""
+        watch, callers = Watch(), set()
+
+        def progress(accepted, owed):
+            callers.add(threading.current_thread())
+            watch(accepted, owed)
+
+        _, counts = spectral_embedding(random_graph(8193, 2, 3), dims=1, rounds=1, degree=1, threads=2, progress=progress)
+        calls = (9 + (1 + 2 + 7 * 9) + 7 * counts.refreshed) * 4
+        accepted = [told[0] for told in watch.told]
+        self.assertEqual((accepted, watch.told[-1]), (sorted(accepted), (calls, 0)))
+        self.assertEqual(callers, {threading.current_thread()})
+
+    def test_numbers_of_threads(self):
+        for wrong in (0, -1):
+            with self.assertRaisesRegex(ValueError, "threads"):
+                spectral_embedding(random_graph(10, 2, 4), threads=wrong)
+        with self.assertRaises(TypeError):
+            spectral_embedding(random_graph(10, 2, 4), threads=2.0)
+
+    def test_by_hand(self):
+        """Chunks in any order; refused calls leave the run as it is."""
+        graph = random_graph(8193, 2, 3)
+        words = {"dims": 1, "rounds": 1, "degree": 1}
+        run = Run.open(graph, **words)
+        self.assertEqual((run.chunk_count, run.progress()), (3, Progress("degrees", 0, 300)))
+        run.chunk(2)
+        self.assertEqual((run.chunks_left(), run.progress()), ([0, 1], Progress("degrees", 1, 299)))
+        for number, place, call in ((13, 2, lambda: run.chunk(2)), (12, 3, lambda: run.chunk(3)), (12, 2**64 - 1, lambda: run.chunk(-1)), (14, 0, run.close)):
+            self.refusal(number, place, call)
+        while run.is_open:
+            for number in reversed(run.chunks_left()):
+                run.chunk(number)
+            run.close()
+        self.same(self.ended(run), spectral_embedding(graph, **words))
+        self.assertEqual((run.chunks_left(), run.progress()[:1] + run.progress()[2:]), ([], ("ended", 0)))
+        self.refusal(15, 0, run.close)
+
+    def refusal(self, number, place, call):
+        with self.assertRaises(Refusal) as caught:
+            call()
+        self.assertEqual((caught.exception.number, caught.exception.place), (number, place))
+
+    def test_no_seed_before_the_end(self):
+        with self.assertRaisesRegex(RuntimeError, "not ended"):
+            Run.open(random_graph(10, 2, 4)).seed
+
+    def test_asked(self):
+        run = Run.open(csr([0, 1, 2], [1, 0], [1.0, 2.0]), dims=3, rounds=4, degree=6, seed_std=0.5)
+        self.assertEqual(run.asked, {"dims": 3, "rows": 2, "entries": 2, "rounds": 4, "degree": 6, "seed_std": 0.5})
+
+    def test_a_closing_that_is_interrupted(self):
+        """Ctrl-C may raise between the library's answer and the run's taking it: the run stands before the closing, and goes on."""
+        graph = random_graph(30, 3, 1)
+        run = Run.open(graph, rounds=1, degree=1)
+        run.chunk(0)
+
+        def interrupted(state, memory):
+            raise KeyboardInterrupt
+
+        run._stand = interrupted
+        with self.assertRaises(KeyboardInterrupt):
+            run.close()
+        del run._stand
+        self.assertTrue(run.drive())
+        self.same(self.ended(run), spectral_embedding(graph, rounds=1, degree=1))
+
+
+class Stops(Case):
+    def test_stop_and_go_on(self):
+        """Within a stage and between stages, with one thread and several, from progress and from another thread's hand."""
+        graph = random_graph(8193, 2, 3)
+        words = {"dims": 1, "rounds": 1, "degree": 1}
+        expected = spectral_embedding(graph, **words)
+        for threads in (1, 2):
+            run = Run.open(graph, **words)
+            stops = 0
+            while not run.drive(threads, lambda accepted, owed: run.stop() if accepted % 50 == 5 else None):
+                stops += 1
+            self.assertGreater(stops, 1 if threads == 1 else 0)
+            self.same((run.seed, run.counts), expected)
+
+    def test_stop_before_a_drive(self):
+        run = Run.open(random_graph(30, 3, 1), rounds=1, degree=1)
+        run.stop()
+        self.assertFalse(run.drive())
+        self.assertEqual(run.progress().accepted, 0)
+        self.assertTrue(run.drive())
+
+    def test_progress_that_raises_with_threads(self):
+        """The run stands as a stop leaves it: all chunks that were begun are done, and it goes on."""
+        graph = random_graph(8193, 2, 3)
+        words = {"dims": 1, "rounds": 1, "degree": 1}
+        run = Run.open(graph, **words)
+
+        def progress(accepted, owed):
+            if accepted > 40:
+                raise Stop
+
+        with self.assertRaises(Stop):
+            run.drive(3, progress)
+        self.assertTrue(run.drive(3))
+        self.same((run.seed, run.counts), spectral_embedding(graph, **words))
+
+
+class Saves(Case):
+    """One file, in the Rust binding's form."""
+
+    def setUp(self):
+        folder = tempfile.TemporaryDirectory()
+        self.addCleanup(folder.cleanup)
+        self.path = pathlib.Path(folder.name) / "run.held"
+        self.graph = csr([0, 1, 2], [1, 0], [1.0, 2.0])
+
+    def small(self):
+        """The run that tests/rust.held has: bindings/rust/tests/saves.rs, small()."""
+        run = Run.open(self.graph, dims=1, rounds=1, degree=2)
+        for _ in range(8):
+            run.chunk(0)
+            run.close()
+        run.chunk(0)
+        return run
+
+    def bytes(self):
+        self.small().save(self.path)
+        return self.path.read_bytes()
+
+    def load(self, data, graph=None):
+        self.path.write_bytes(data)
+        return Run.load(self.graph if graph is None else graph, self.path)
+
+    def reason(self, data, graph=None):
+        with self.assertRaises(LoadError) as caught:
+            self.load(data, graph)
+        self.assertTrue(str(caught.exception))
+        return caught.exception.reason
+
+    def summed(self, data):
+        """With the right check sum, by FNV-1a as it is defined."""
+        found = 0xCBF29CE484222325
+        for byte in data[:-8]:
+            found = ((found ^ byte) * 0x100000001B3) & (2**64 - 1)
+        return data[:-8] + found.to_bytes(8, "little")
+
+    def forged(self, data, at, number):
+        return self.summed(data[:at] + number.to_bytes(8, "little") + data[at + 8 :])
+
+    def test_rusts_save(self):
+        """The Rust binding wrote rust.held: it goes on here, and Python's save of the same run has its every byte."""
+        stored = (HERE / "rust.held").read_bytes()
+        self.assertEqual(self.bytes(), stored)
+        run = Run.load(self.graph, HERE / "rust.held")
+        self.assertEqual(run.chunks_left(), [])
+        run.drive()
+        self.same((run.seed, run.counts), spectral_embedding(self.graph, dims=1, rounds=1, degree=2))
+
+    def test_check_sum(self):
+        """Beside the plain loop, around the blocks that it is computed in."""
+        chance = np.random.default_rng(5)
+        for length in (0, 1, 2, 9, 65535, 65536, 65537, 140000):
+            data = chance.bytes(length) + bytes(8)
+            found = _save.check_sum(np.frombuffer(data[:-8], np.uint8))
+            self.assertEqual(found.to_bytes(8, "little"), self.summed(data)[-8:], length)
+
+    def test_every_kind_of_stage(self):
+        """Saved in the middle of each kind of stage, and gone on with from the file."""
+        graph = random_graph(4097, 2, 3)
+        words = {"dims": 1, "rounds": 1, "degree": 1}
+        run = Run.open(graph, **words)
+        saved = set()
+        while run.is_open:
+            run.chunk(1)
+            if run.progress().stage not in saved:
+                saved.add(run.progress().stage)
+                run.save(self.path)
+                before = run.progress()
+                run = Run.load(graph, self.path)
+                self.assertEqual((run.progress(), run.chunks_left()), (before, [0]))
+            run.chunk(0)
+            run.close()
+        self.assertEqual(len(saved), 19)
+        self.same((run.seed, run.counts), spectral_embedding(graph, **words))
+        run.save(self.path)
+        self.same((Run.load(graph, self.path).seed, run.counts), (run.seed, run.counts))
+
+    def test_cut_and_lengthened(self):
+        data = self.bytes()
+        for length in (0, 1, 8, 15, 16, 100, 127, 128, LISTS, len(data) - 1):
+            self.assertEqual(self.reason(data[:length]), "length", length)
+        self.assertEqual(self.reason(data + b"\0"), "length")
+
+    def test_not_a_save(self):
+        for data in (b"x", b"PK\x03\x04" + bytes(200), b"tcinchrn" + self.bytes()[8:]):
+            self.assertEqual(self.reason(data), "not a save")
+
+    def test_version(self):
+        self.assertEqual(self.reason(self.forged(self.bytes(), 8, 2)), "version")
+
+    def test_changed_bytes(self):
+        data = self.bytes()
+        for place in (16, GRAPH_SUM, STATE, STAGE, LISTS, LISTS + 40, len(data) - 9, len(data) - 1):
+            changed = bytearray(data)
+            changed[place] ^= 1
+            self.assertEqual(self.reason(bytes(changed)), "check sum", place)
+
+    def test_lists_of_other_lengths(self):
+        """The inverse has one element less and the output one more: as many bytes in all."""
+        data = self.bytes()
+        data = self.forged(self.forged(data, LENGTHS, 1), LENGTHS + 72, 3)
+        self.assertEqual(self.reason(data), "lists")
+
+    def test_other_graphs(self):
+        data = self.bytes()
+        for other in (csr([0, 1, 2], [1, 0], [1.0, 3.0]), csr([0, 1, 2], [1, 1], [1.0, 2.0]), csr([0, 2, 2], [1, 0], [1.0, 2.0]), csr([0, 1], [0], [1.0])):
+            self.assertEqual(self.reason(data, other), "other graph")
+        self.assertEqual(self.reason(self.forged(data, GRAPH_SUM, 1)), "other graph")
+        with self.assertRaises(TypeError):
+            self.load(data, self.graph.tocoo())
+
+    def test_forged_states(self):
+        data = self.bytes()
+        for at, number, refusal in ((STAGE, 21, 16), (STAGE, 0, 15), (STATE, 8, 1)):
+            with self.assertRaises(LoadError) as caught:
+                self.load(self.forged(data, at, number))
+            self.assertEqual((caught.exception.reason, caught.exception.__cause__.number), ("refused", refusal))
+            self.assertIn(caught.exception.__cause__.words, str(caught.exception))
+
+    def test_forged_graph_whose_starts_fall(self):
+        """Threads rest on rising starts, and so they are tested beside the check sum."""
+        falling = csr([0, 1, 2], [1, 0], [1.0, 2.0])
+        falling.indptr = np.array([0, 3, 2], np.int32)
+        lists = [np.array([0, 3, 2], np.uint64), np.array([1, 0], np.uint32), np.array([1.0, 2.0])]
+        found = _save._sum_of(lists)
+        self.assertEqual(self.reason(self.forged(self.bytes(), GRAPH_SUM, found), falling), "other graph")
+
+    def test_a_save_that_fails_leaves_the_older(self):
+        self.path.write_bytes(b"older")
+        run = self.small()
+        with self.assertRaises(TypeError):
+            _save.write(self.path, run._graph, run._at[0], run._at[1][:-1] + [None])
+        self.assertEqual((self.path.read_bytes(), os.listdir(self.path.parent)), (b"older", ["run.held"]))
+
+    def test_no_file(self):
+        with self.assertRaises(FileNotFoundError):
+            Run.load(self.graph, self.path)
+        with self.assertRaises(FileNotFoundError):
+            self.small().save(self.path.parent / "nothing" / "run.held")
+
+    def test_the_empty_graph(self):
+        """Lists of no elements, and bits that are the one call's."""
+        graph = csr([0, 0], [], [])
+        Run.open(graph, dims=1, rounds=1, degree=1).save(self.path)
+        run = Run.load(graph, self.path)
+        run.drive()
+        np.testing.assert_array_equal(bits(run.seed), bits(spectral_embedding(graph, dims=1, rounds=1, degree=1)[0]))

@@ -1,0 +1,245 @@
+"""The command `threshcinch`: a stored graph's seed, and digests of what is stored."""
+from __future__ import annotations
+
+import argparse
+import contextlib
+import os
+import signal
+import sys
+import textwrap
+from typing import Optional
+
+import numpy as np
+
+from . import __version__, _digest
+from ._bar import bar
+from ._digest import graph_digest, seed_digest
+from ._files import Trouble, kind_of, read_graph, read_seed
+from ._look import warnings_about
+from ._refusal import LoadError, Refusal
+from ._run import Run
+from ._save import written_whole
+
+ASKED = ("dims", "rounds", "degree", "seed_std")
+
+STATUS = """\
+Status: 0; 1 where a file, a graph or a saved run is refused, with words on standard error; 2 where the command's own words are not
+understood; 130 or 143 where Ctrl-C or a request to end (SIGTERM) stopped the run."""
+
+SEED = """\
+Writes the spectral seed of a stored graph, an n x D array of float64, as NumPy's .npy, and prints what was asked, what the run did, and
+the digests of graph and seed.
+
+GRAPH is what scipy.sparse.save_npz writes. CSR is taken as it stands, entries in their order; another format is converted by SciPy's
+.tocsr(), with a word on standard error. Also on standard error, and never in the numbers: columns twice in a row, a graph that is not
+symmetric, several components, zeroed columns.
+
+Ctrl-C leaves the run in a file, SEED.npy.held or what --save names. The same command with --resume goes on from there to the same bits, and
+removes the file once the seed is written."""
+
+
+def say(words: str) -> None:
+    print(f"threshcinch: {words}", file=sys.stderr)
+
+
+# ---- the words of the command
+
+
+def _threads(word: str) -> int:
+    number = int(word)
+    if number < 1:
+        raise ValueError(word)
+    return number
+
+
+_threads.__name__ = "number of threads"  # argparse names it so where the word is not understood
+
+
+def _add_seed(commands) -> None:
+    form = argparse.RawDescriptionHelpFormatter
+    parser = commands.add_parser("seed", help="the seed of a stored graph", description=SEED, epilog=_epilog(), formatter_class=form)
+    parser.set_defaults(work=seed)
+    parser.add_argument("graph", metavar="GRAPH", help="the graph, as scipy.sparse.save_npz writes it")
+    parser.add_argument("-o", "--output", metavar="SEED.npy", required=True, help="where the seed goes")
+    parser.add_argument("--dims", type=int, metavar="D", help="numbers a row of the seed has, 1 to 7 (2)")
+    parser.add_argument("--rounds", type=int, metavar="N", help="rounds of refinement, 1 to 1,000 (5)")
+    parser.add_argument("--degree", type=int, metavar="N", help="the filter's degree, 1 to 1,000 (20)")
+    parser.add_argument("--seed-std", type=float, metavar="X", help="standard deviation of each of the seed's columns (1e-4)")
+    parser.add_argument("--threads", type=_threads, default=1, metavar="N", help="threads that do the work (1); the bits are the same")
+    parser.add_argument("--save", metavar="FILE", help="where Ctrl-C leaves the run (SEED.npy.held)")
+    parser.add_argument("--resume", action="store_true", help="go on from that file")
+
+
+def _add_digest(commands) -> None:
+    form = argparse.RawDescriptionHelpFormatter
+    about = "Prints a line for each stored graph (.npz) and seed (.npy): 'graph' or 'seed', its digest, and the file's name."
+    parser = commands.add_parser("digest", help="digests of stored graphs and seeds", description=about, epilog=_epilog(), formatter_class=form)
+    parser.set_defaults(work=digest)
+    parser.add_argument("files", metavar="FILE", nargs="+")
+
+
+def _epilog() -> str:
+    return textwrap.dedent(_digest.__doc__ or "") + "\n" + STATUS
+
+
+def _parser() -> argparse.ArgumentParser:
+    parser = argparse.ArgumentParser(prog="threshcinch", description="The spectral seed of a neighbour graph, bit for bit the same everywhere.")
+    parser.add_argument("--version", action="version", version=f"threshcinch {__version__}")
+    commands = parser.add_subparsers(metavar="COMMAND", required=True)
+    _add_seed(commands)
+    _add_digest(commands)
+    return parser
+
+
+# ---- seed
+
+
+def _check_place(path: str) -> None:
+    """That a file can be written there is known before the work, not after it."""
+    folder = os.path.dirname(os.path.abspath(path))
+    if not os.path.isdir(folder) or not os.access(folder, os.W_OK):
+        raise Trouble(f"{path}: {folder} is no folder that can be written to")
+    if os.path.isdir(path):
+        raise Trouble(f"{path}: is a folder")
+
+
+def _begin(graph, asked, save: str) -> Run:
+    """The run at its opening, or where it was left."""
+    given = {name: getattr(asked, name) for name in ASKED if getattr(asked, name) is not None}
+    if not asked.resume:
+        if os.path.exists(save):
+            say(f"{save} holds a run that was stopped; --resume would go on from it")
+        return Run.open(graph, **given)
+    try:
+        run = Run.load(graph, save)
+    except LoadError as fault:
+        raise Trouble(f"{save}: {fault}") from fault
+    for name, number in given.items():
+        if run.asked[name] != number:
+            raise Trouble(f"{save}: the run was opened with {name} {run.asked[name]}, and {number} is asked now")
+    return run
+
+
+@contextlib.contextmanager
+def _stopping(run: Run):
+    """Ctrl-C, or a request to end, stops the run and not this process. Answers the list of what came. What was ignored stays so."""
+    came: list[int] = []
+
+    def stop(number, frame) -> None:
+        came.append(number)
+        run.stop()
+
+    numbers = [number for number in (signal.SIGINT, signal.SIGTERM) if signal.getsignal(number) is not signal.SIG_IGN]
+    before = {number: signal.signal(number, stop) for number in numbers}
+    try:
+        yield came
+    finally:
+        for number, handler in before.items():
+            signal.signal(number, handler)
+
+
+def _drive(run: Run, threads: int, save: str) -> Optional[int]:
+    """Does the run: nothing, or the number of the signal that stopped it; it is then saved."""
+    with _stopping(run) as came:
+        with bar(sys.stderr) as tell:
+            ended = run.drive(threads, tell)
+        if ended:
+            return None
+        run.save(save)
+        say(f"stopped, and left in {save}: --resume goes on from there")
+        return came[0]
+
+
+def _print_run(run: Run) -> None:
+    asked, counts = run.asked, run.counts
+    print(
+        f"{asked['rows']} rows, {asked['entries']} entries; "
+        f"{asked['dims']} numbers a row, {asked['rounds']} rounds of degree {asked['degree']}, seed_std {asked['seed_std']!r}"
+    )
+    print(
+        f"{counts.passes} operator passes, {counts.refreshed} columns refreshed, "
+        f"{counts.zeroed} columns zeroed, {counts.isolated} rows with no entries"
+    )
+
+
+def seed(asked) -> int:
+    save = asked.save or asked.output + ".held"
+    _check_place(asked.output)
+    _check_place(save)
+    graph, word = read_graph(asked.graph)
+    if word:
+        say(word)
+    run = _begin(graph, asked, save)
+    for line in warnings_about(graph):
+        say(f"warning: {line}")
+    stopped = _drive(run, asked.threads, save)
+    if stopped is not None:
+        return 128 + stopped
+    with written_whole(asked.output) as file:
+        np.save(file, run.seed)
+    if asked.resume:
+        os.unlink(save)
+    if run.counts.zeroed:
+        say(f"warning: columns were zeroed {run.counts.zeroed} times: the block found less directions than it has columns")
+    _print_run(run)
+    print("graph", run.graph_digest, asked.graph)
+    print("seed", seed_digest(run.seed), asked.output)
+    return 0
+
+
+# ---- digest
+
+
+def _digest_of(path: str) -> str:
+    kind = kind_of(path)
+    if kind == "seed":
+        return f"seed {seed_digest(read_seed(path))} {path}"
+    graph, word = read_graph(path)
+    if word:
+        say(word)
+    return f"graph {graph_digest(graph)} {path}"
+
+
+def digest(asked) -> int:
+    status = 0
+    for path in asked.files:
+        try:
+            print(_digest_of(path))
+        except (Trouble, OSError) as fault:
+            say(str(fault))
+            status = 1
+        except (Refusal, TypeError, ValueError) as fault:
+            say(f"{path}: {fault}")
+            status = 1
+    return status
+
+
+# ---- the command
+
+
+def _refused(words: str) -> int:
+    say(words)
+    return 1
+
+
+def _work(asked) -> int:
+    """The command's work and status; whatever keeps it from its end is said in a line."""
+    try:
+        status = asked.work(asked)
+        sys.stdout.flush()
+        return status
+    except BrokenPipeError:
+        # Whoever read standard output has gone. Python would try once more to write at its end, and complain.
+        os.dup2(os.open(os.devnull, os.O_WRONLY), sys.stdout.fileno())
+        return _refused("standard output: its reader has gone")
+    except MemoryError:
+        return _refused("this machine has not the memory")
+    except (Refusal, Trouble, OSError, TypeError, ValueError) as fault:
+        return _refused(str(fault))
+    except KeyboardInterrupt:
+        say("stopped before the run was open, or after its end: nothing is left")
+        return 128 + signal.SIGINT
+
+
+def main(words: Optional[list[str]] = None) -> int:
+    return _work(_parser().parse_args(words))
