@@ -9,6 +9,7 @@ import subprocess
 import sys
 import tempfile
 import unittest
+import warnings
 from unittest import mock
 
 import numpy as np
@@ -42,7 +43,9 @@ class Files(unittest.TestCase):
     def command(self, *words):
         """Status, standard output and standard error."""
         out, err = io.StringIO(), io.StringIO()
-        with contextlib.redirect_stdout(out), contextlib.redirect_stderr(err):
+        with contextlib.redirect_stdout(out), contextlib.redirect_stderr(err), warnings.catch_warnings():
+            # NumPy leaves a refused file to be closed by Python, which unittest has Python tell
+            warnings.simplefilter("ignore", ResourceWarning)
             try:
                 status = _command.main([str(word) for word in words])
             except SystemExit as ended:

@@ -276,9 +276,10 @@ class Saves(Case):
 
     def test_a_save_that_fails_leaves_the_older(self):
         self.path.write_bytes(b"older")
-        run = self.small()
-        with self.assertRaises(TypeError):
-            _save.write(self.path, run._graph, run._at[0], run._at[1][:-1] + [None])
+        with self.assertRaises(Stop):
+            with _save.written_whole(self.path) as file:
+                file.write(b"half of the new one")
+                raise Stop
         self.assertEqual((self.path.read_bytes(), os.listdir(self.path.parent)), (b"older", ["run.held"]))
 
     def test_no_file(self):

@@ -42,6 +42,11 @@ def say(words: str) -> None:
     print(f"threshcinch: {words}", file=sys.stderr)
 
 
+def _refused(words: str) -> int:
+    say(words)
+    return 1
+
+
 # ---- the words of the command
 
 
@@ -204,22 +209,17 @@ def digest(asked) -> int:
     status = 0
     for path in asked.files:
         try:
-            print(_digest_of(path))
-        except (Trouble, OSError) as fault:
-            say(str(fault))
-            status = 1
+            line = _digest_of(path)
+        except (Trouble, OSError) as fault:  # they name the file
+            status = _refused(str(fault))
         except (Refusal, TypeError, ValueError) as fault:
-            say(f"{path}: {fault}")
-            status = 1
+            status = _refused(f"{path}: {fault}")
+        else:
+            print(line)
     return status
 
 
 # ---- the command
-
-
-def _refused(words: str) -> int:
-    say(words)
-    return 1
 
 
 def _work(asked) -> int:
