@@ -428,6 +428,15 @@ class Environments(Case):
             self.assertEqual(told, watch.told)
             self.assertEqual({control(found) for found in registers}, {control(ENVIRONMENTS[name])})
 
+    def test_threads(self):
+        """Two chunks and two threads: the second one has its maker's environment, and makes its calls in the default one."""
+        graph = subnormal_ring(4097)
+        expected = spectral_embedding(graph, **self.words)
+        for name in ("upward", "flush-to-zero, denormals-are-zero"):
+            with environment(ENVIRONMENTS[name]):
+                found = spectral_embedding(graph, threads=2, **self.words)
+            self.same(found, expected)
+
     def test_a_call_leaves_every_bit(self):
         """Also the flags of exceptions: those that were raised stay, and a call, which rounds, raises none."""
         _, words = self.bare_call()

@@ -67,7 +67,7 @@ class SeedDigests(unittest.TestCase):
             self.assertEqual(seed_digest(same), seed_digest(self.seed))
         zero, last = self.seed.copy(), self.seed.copy()
         zero[0, 1] = 0.0
-        last.view(np.uint64)[2, 1] ^= 1
+        last.view(np.uint64)[2, 1] ^= np.uint64(1)
         for other in (zero, last, self.seed.reshape(2, 3), self.seed.reshape(6, 1)):
             self.assertNotEqual(seed_digest(other), seed_digest(self.seed))
 
