@@ -95,6 +95,7 @@ class Held(Case):
         graph = random_graph(30, 3, 1)
         run = Run.open(graph, rounds=1, degree=1)
         run.chunk(0)
+        before = (run.progress(), run.chunks_left())
 
         def interrupted(state, memory):
             raise KeyboardInterrupt
@@ -103,6 +104,7 @@ class Held(Case):
         with self.assertRaises(KeyboardInterrupt):
             run.close()
         del run._stand
+        self.assertEqual(((run.progress(), run.chunks_left()), run.chunks_left()), (before, []))
         self.assertTrue(run.drive())
         self.same(self.ended(run), spectral_embedding(graph, rounds=1, degree=1))
 
