@@ -422,7 +422,8 @@ static inline threshcinch_answer threshcinch_run_open(uint64_t d, threshcinch_pa
   return answer;
 }
 
-static inline threshcinch_answer threshcinch_run_chunk(const threshcinch_state *state, size_t number, const threshcinch_graph *graph, const threshcinch_memory *memory) {
+static inline threshcinch_answer threshcinch_run_chunk(const threshcinch_state *state, size_t number, const threshcinch_graph *graph,
+                                                       const threshcinch_memory *memory) {
   const unsigned found = threshcinch_arithmetic_begin();
   const threshcinch_answer answer = threshcinch_chunk(*state, number, THRESHCINCH_LISTS(graph, memory));
   threshcinch_arithmetic_end(found);
