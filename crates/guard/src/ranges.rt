@@ -106,7 +106,7 @@ fn order_sound(a: Asked, order: [usize; 15]) -> bool
     true
 }
 
-// The fields of a state that have a range. A test of a call gets these alone, so that the state's large arrays are not copied for it.
+// The fields of a state that have a range: all that a test of a call looks at in it.
 pub fn fields_sound(a: Asked, p: Progress, counts: Counts, order: [usize; 15]) -> bool
     ensures { λ r. ⌜ r ≡ fieldsSound (askedIn a) (progressIn p) (countsIn counts) order ⌝ }
 {
