@@ -6,8 +6,8 @@
  * Every function of the library is proved to meet its contract (crates/threshcinch; the definitions that it cites are document 01's, in
  * crates/definition and crates/machine). None asks for anything first, except what C itself leaves to the caller: a list's address and
  * length must be those of memory that is there, aligned for its elements, and a list that is written must overlap no other list of the call;
- * and the thread must have the stack that a call takes: about 55,000 bytes (closing 54,700, the one call 43,500, a chunk 41,200, opening
- * 18,000; bindings/c/stack.c measures them).
+ * and the thread must have the stack that a call takes: about 55,000 bytes (closing 54,700, the one call 43,600, a chunk 41,200, opening
+ * 18,100; bindings/c/stack.c measures them).
  *
  * Call the short forms: threshcinch_embed, threshcinch_run_open, _run_chunk, _run_close, _run_accepted and _run_owed, and
  * threshcinch_set_seed_std. They are a few lines around the library's own functions, the long forms, and see to two things that the proofs
@@ -17,15 +17,23 @@
  * 1. Every call ends, on every graph, parameter, state and memory. Bad input is refused by a number and a place (below). A refused call
  *    changes no lent number; it answers the state that it got (a refused opening the empty state, a refused setter the old parameters,
  *    a refused one call zero counts).
- * 2. An accepted graph yields the seed of document 01's definition, roots rounded as IEEE 754 says: the same bits on every machine, and from
- *    the short forms also in a thread that rounds otherwise or flushes subnormal numbers to zero. They are
- *    bhtsne's bits (a NaN counts as any NaN) where no row names a column twice, no Ritz value is NaN and the last round's first D + 1 Ritz
- *    values fall strictly. On a graph with an empty row, or a row of minus zeros only, zeros of either sign match.
- * 3. A held run gives the same seed, counts and memory as the one call, whatever the order of its chunk and closing calls, refused calls
- *    among them, and wherever it was stored and gone on with. Between opening and end it accepts exactly
+ * 2. An accepted graph yields the seed and the Ritz record (THE RITZ RECORD, below) of document 01's definition, roots rounded as IEEE 754
+ *    says: the same bits on every machine, and from the short forms also in a thread that rounds otherwise or flushes subnormal numbers to
+ *    zero. The seed has bhtsne's bits (a NaN counts as any NaN) where no row names a column twice, no Ritz value is NaN and the last round's
+ *    first D + 1 Ritz values fall strictly. On a graph with an empty row, or a row of minus zeros only, zeros of either sign match. bhtsne
+ *    shows no Ritz record.
+ * 3. A held run gives the same seed, counts and memory, the Ritz record in it, as the one call, whatever the order of its chunk and closing
+ *    calls, refused calls among them, and wherever it was stored and gone on with. Between opening and end it accepts exactly
  *    (9 + rounds x (degree + 2 + 7 k) + 7 x refreshed) x (C + 1) calls, with k = D + 8 and C chunks of 4,096 rows.
  *
  * NUMBERS ALLOWED: D 1 to 7; rows 1 to 1,048,576; entries 0 to 67,108,864; rounds and degree 1 to 1,000; seed_std positive and finite.
+ *
+ * THE RITZ RECORD
+ * The last of the lent lists, ritz_record, tells how the spectrum settled, round by round. With k = D + 8 it has k + 1 numbers for each round:
+ * for round r, from 0, place r x (k + 1) holds the bound that the filter of that round used (0.75 in round 0; later the Ritz value at place
+ * D + 1, counted from 0, of the round before, raised to 0.1 and lowered to 0.9995), and the k places behind it hold all k Ritz values of that
+ * round, falling, NaN last. A round's places are written when its products stage (14) is closed, and by nothing else: those of rounds that
+ * are not so far are as they were lent.
  *
  * WHAT MAY BE CALLED FROM SEVERAL THREADS AT ONCE
  * - threshcinch_chunk on the same state, graph and memory, as long as no two calls that run at once have the same chunk number. It reads
@@ -71,10 +79,11 @@ extern "C" {
 #endif
 
 /* ---- the version: this header's, and the library's own, which is that of the header that it was built with. The two differ where a program
- * runs with another shared library than it was compiled for. The first number is also in the shared library's name (its soname): it rises
- * whenever a program that was linked before would go wrong, so that such a program does not find the new one. */
+ * runs with another shared library than it was compiled for. The shared library's name (its soname) has the version's first number, and while
+ * that is 0 the second one too: one of them rises whenever a program that was linked before would go wrong, so that such a program does not
+ * find the new one. */
 
-#define THRESHCINCH_VERSION "0.1.0"
+#define THRESHCINCH_VERSION "0.2.0"
 
 THRESHCINCH_API const char *const threshcinch_version;
 
@@ -91,7 +100,7 @@ enum threshcinch_refusal {
   THRESHCINCH_ROUNDS = 8,        /* rounds not 1 to 1,000 */
   THRESHCINCH_DEGREE = 9,        /* degree not 1 to 1,000 */
   THRESHCINCH_SEED_STD = 10,     /* seed_std not positive and finite */
-  THRESHCINCH_MEMORY = 11,       /* lent memory too short; place: the first short list, 0 to 9 */
+  THRESHCINCH_MEMORY = 11,       /* lent memory too short; place: the first short list, 0 to 10 */
   THRESHCINCH_NO_CHUNK = 12,     /* chunk number not below the number of chunks; place: the number offered */
   THRESHCINCH_CHUNK_DONE = 13,   /* that chunk is already done in this stage; place: its number */
   THRESHCINCH_CHUNKS_LEFT = 14,  /* closing with a chunk not done; place: the lowest such */
@@ -120,10 +129,10 @@ typedef struct {
   threshcinch_params params;
 } threshcinch_set;
 
-/* the least lengths of the lent lists 0 to 9, in elements; zeros with a refusal (1, 2, 3) */
+/* the least lengths of the lent lists 0 to 10, in elements; zeros with a refusal (1, 2, 3, 8) */
 typedef struct {
   threshcinch_verdict verdict;
-  size_t lengths[10];
+  size_t lengths[11];
 } threshcinch_sizes;
 
 /* what was asked at the opening */
@@ -185,7 +194,7 @@ THRESHCINCH_ASSERT(sizeof(size_t) == 8 && sizeof(double) == 8);
 THRESHCINCH_ASSERT(sizeof(threshcinch_verdict) == 16 && offsetof(threshcinch_verdict, place) == 8);
 THRESHCINCH_ASSERT(sizeof(threshcinch_params) == 24 && offsetof(threshcinch_params, degree) == 8 && offsetof(threshcinch_params, seed_std) == 16);
 THRESHCINCH_ASSERT(sizeof(threshcinch_set) == 40 && offsetof(threshcinch_set, params) == 16);
-THRESHCINCH_ASSERT(sizeof(threshcinch_sizes) == 96 && offsetof(threshcinch_sizes, lengths) == 16);
+THRESHCINCH_ASSERT(sizeof(threshcinch_sizes) == 104 && offsetof(threshcinch_sizes, lengths) == 16);
 THRESHCINCH_ASSERT(sizeof(threshcinch_asked) == 48 && offsetof(threshcinch_asked, seed_std) == 40);
 THRESHCINCH_ASSERT(sizeof(threshcinch_progress) == 88 && offsetof(threshcinch_progress, bound) == 56 && offsetof(threshcinch_progress, norm) == 80);
 THRESHCINCH_ASSERT(sizeof(threshcinch_counts) == 32 && offsetof(threshcinch_counts, isolated) == 24);
@@ -210,8 +219,9 @@ THRESHCINCH_API threshcinch_set threshcinch_params_seed_std(threshcinch_params p
 /* C: rows / 4,096 rounded up */
 THRESHCINCH_API size_t threshcinch_chunk_count(size_t rows);
 
-/* how long each lent list must at least be; longer is allowed, and the rest stays untouched */
-THRESHCINCH_API threshcinch_sizes threshcinch_lent_sizes(uint64_t d, size_t rows, size_t entries);
+/* how long each lent list must at least be; longer is allowed, and the rest stays untouched. Refusals 1, 2 and 3 for d, rows and entries, then
+ * 8 for rounds that are not 1 to 1,000, each at place 0. */
+THRESHCINCH_API threshcinch_sizes threshcinch_lent_sizes(uint64_t d, uint64_t rounds, size_t rows, size_t entries);
 
 /* ---- progress, for people. Long forms: they need MXCSR at its default, as they test the state's numbers. Short: threshcinch_run_accepted and
  * threshcinch_run_owed. Both look at the state alone, which no chunk call changes, and not at the marks: within a stage neither moves. */
@@ -241,7 +251,8 @@ THRESHCINCH_API threshcinch_embedded threshcinch_spectral_embedding(
     double *block2, size_t block2_length,
     double *partials, size_t partials_length,
     uint8_t *marks, size_t marks_length,
-    double *output, size_t output_length);
+    double *output, size_t output_length,
+    double *ritz_record, size_t ritz_record_length);
 
 /* writes only the first C marks */
 THRESHCINCH_API threshcinch_answer threshcinch_open(
@@ -258,9 +269,10 @@ THRESHCINCH_API threshcinch_answer threshcinch_open(
     const double *block2, size_t block2_length,
     const double *partials, size_t partials_length,
     uint8_t *marks, size_t marks_length,
-    const double *output, size_t output_length);
+    const double *output, size_t output_length,
+    const double *ritz_record, size_t ritz_record_length);
 
-/* does the work of one chunk in the state's stage and marks it done; the state stays as it is */
+/* does the work of one chunk in the state's stage and marks it done; the state stays as it is. Of ritz_record the length alone is looked at. */
 THRESHCINCH_API threshcinch_answer threshcinch_chunk(
     threshcinch_state state, size_t number,
     const uint64_t *starts, size_t starts_length,
@@ -275,9 +287,11 @@ THRESHCINCH_API threshcinch_answer threshcinch_chunk(
     double *block2, size_t block2_length,
     double *partials, size_t partials_length,
     uint8_t *marks, size_t marks_length,
-    double *output, size_t output_length);
+    double *output, size_t output_length,
+    const double *ritz_record, size_t ritz_record_length);
 
-/* closes the stage once each of its chunks is done; writes only the first C marks, and answers the next state */
+/* closes the stage once each of its chunks is done, and answers the next state; writes only the first C marks and, where the stage is that of the
+ * products (14), the k + 1 places of its round in ritz_record */
 THRESHCINCH_API threshcinch_answer threshcinch_close(
     threshcinch_state state,
     const uint64_t *starts, size_t starts_length,
@@ -292,7 +306,8 @@ THRESHCINCH_API threshcinch_answer threshcinch_close(
     const double *block2, size_t block2_length,
     const double *partials, size_t partials_length,
     uint8_t *marks, size_t marks_length,
-    const double *output, size_t output_length);
+    const double *output, size_t output_length,
+    double *ritz_record, size_t ritz_record_length);
 
 /* ---- the short forms */
 
@@ -306,7 +321,7 @@ typedef struct {
   size_t values_length;
 } threshcinch_graph;
 
-/* lent memory in document 01's order; after the run the output holds the seed, row after row, D numbers each */
+/* lent memory in document 01's order, and the Ritz record as list 10; after the run the output holds the seed, row after row, D numbers each */
 typedef struct {
   double *inverse;
   size_t inverse_length;
@@ -328,6 +343,8 @@ typedef struct {
   size_t marks_length;
   double *output;
   size_t output_length;
+  double *ritz_record;
+  size_t ritz_record_length;
 } threshcinch_memory;
 
 /* n + 1 starts, and columns and values of the same length */
@@ -404,9 +421,9 @@ static inline void *threshcinch_address(const void *address, size_t length) {
   THRESHCINCH_LIST(double, memory, inverse), THRESHCINCH_LIST(double, memory, v0), THRESHCINCH_LIST(uint32_t, memory, edge_columns), \
   THRESHCINCH_LIST(double, memory, edge_weights), THRESHCINCH_LIST(double, memory, block0), THRESHCINCH_LIST(double, memory, block1), \
   THRESHCINCH_LIST(double, memory, block2), THRESHCINCH_LIST(double, memory, partials), THRESHCINCH_LIST(uint8_t, memory, marks), \
-  THRESHCINCH_LIST(double, memory, output)
+  THRESHCINCH_LIST(double, memory, output), THRESHCINCH_LIST(double, memory, ritz_record)
 
-/* The one call: the seed is in memory->output if the verdict's number is 0. */
+/* The one call: the seed is in memory->output and the Ritz record in memory->ritz_record if the verdict's number is 0. */
 static inline threshcinch_embedded threshcinch_embed(uint64_t d, threshcinch_params params, const threshcinch_graph *graph, const threshcinch_memory *memory) {
   const unsigned found = threshcinch_arithmetic_begin();
   const threshcinch_embedded embedded = threshcinch_spectral_embedding(d, params, THRESHCINCH_LISTS(graph, memory));
@@ -442,6 +459,12 @@ static inline int threshcinch_is_open(const threshcinch_state *state) {
   return 1 <= state->progress.stage && state->progress.stage <= 19;
 }
 
+/* The k + 1 numbers of a round in the Ritz record of D dimensions: the bound that its filter used, then its Ritz values. They are the run's once
+ * that round's products are closed. The round is below the rounds that the memory was made for. */
+static inline const double *threshcinch_ritz_round(const threshcinch_memory *memory, uint64_t d, size_t round) {
+  return memory->ritz_record + round * (d + 9);
+}
+
 /* Gives back what threshcinch_memory_new took. */
 static inline void threshcinch_memory_free(threshcinch_memory *memory) {
   free(memory->inverse);
@@ -474,6 +497,9 @@ static inline void threshcinch_memory_free(threshcinch_memory *memory) {
   free(memory->output);
   memory->output = NULL;
   memory->output_length = 0;
+  free(memory->ritz_record);
+  memory->ritz_record = NULL;
+  memory->ritz_record_length = 0;
 }
 
 /* Takes the memory that a run needs, as zeros. Answers 1, or 0 where there is not so much, and then holds nothing. */
@@ -509,6 +535,9 @@ static inline int threshcinch_memory_new(threshcinch_memory *memory, threshcinch
   memory->output_length = sizes.lengths[9];
   memory->output = (double *)calloc(sizes.lengths[9] + 1, sizeof *memory->output);
   whole = whole && memory->output;
+  memory->ritz_record_length = sizes.lengths[10];
+  memory->ritz_record = (double *)calloc(sizes.lengths[10] + 1, sizeof *memory->ritz_record);
+  whole = whole && memory->ritz_record;
   if (!whole) threshcinch_memory_free(memory);
   return whole;
 }

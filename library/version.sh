@@ -2,9 +2,11 @@
 # library/version.sh: the library's version, whose one home is include/threshcinch.h; for bash, read in by other scripts (source) after
 # machine.sh.
 #
-#   version_of_header   prints THRESHCINCH_VERSION, as 0.1.0
-#   version_soname      prints the name by which programs ask for the shared library. It has the version's first number, which rises whenever a
-#                       program that was linked before would go wrong: another record, another form of a call
+#   version_of_header   prints THRESHCINCH_VERSION, as 0.2.0
+#   version_soname_of VERSION   prints the name by which programs ask for the shared library of that version. It has the version's first
+#                       number, and while that is 0 the second one too: one of them rises whenever a program that was linked before would go
+#                       wrong (another record, another form of a call), so that such a program does not find the new one
+#   version_soname      prints it for the header's version
 
 version_of_header() {
   local found
@@ -13,8 +15,15 @@ version_of_header() {
   echo "$found"
 }
 
+version_soname_of() {
+  case $1 in
+    0.*) echo "libthreshcinch.so.${1%.*}" ;;
+    *) echo "libthreshcinch.so.${1%%.*}" ;;
+  esac
+}
+
 version_soname() {
   local version
   version=$(version_of_header) || return 1
-  echo "libthreshcinch.so.${version%%.*}"
+  version_soname_of "$version"
 }

@@ -57,9 +57,9 @@ static inline threshcinch_graph ring(size_t rows) {
   return threshcinch_graph_of(rows, starts, rows * RING_NEAR, columns, values);
 }
 
-static inline threshcinch_memory memory_for(uint64_t d, const threshcinch_graph *graph) {
+static inline threshcinch_memory memory_for(uint64_t d, uint64_t rounds, const threshcinch_graph *graph) {
   threshcinch_memory memory;
-  const threshcinch_sizes sizes = threshcinch_lent_sizes(d, graph->starts_length - 1, graph->columns_length);
+  const threshcinch_sizes sizes = threshcinch_lent_sizes(d, rounds, graph->starts_length - 1, graph->columns_length);
   if (sizes.verdict.number || !threshcinch_memory_new(&memory, sizes)) fail("no memory for a run");
   return memory;
 }

@@ -40,7 +40,7 @@ static const Environment environments[] = {
 
 enum { ENVIRONMENTS = sizeof environments / sizeof *environments };
 
-/* What a run leaves: the seed, and the counts with the calls that the state told of at each stage, summed up. */
+/* What a run leaves: the seed and the Ritz record, and the counts with the calls that the state told of at each stage, summed up. */
 typedef struct {
   threshcinch_memory memory;
   threshcinch_counts counts;
@@ -65,11 +65,15 @@ static int same_seed(const Outcome *one, const Outcome *other) {
          !memcmp(&one->counts, &other->counts, sizeof one->counts) && one->told == other->told;
 }
 
+static int same_record(const Outcome *one, const Outcome *other) {
+  return !memcmp(one->memory.ritz_record, other->memory.ritz_record, one->memory.ritz_record_length * sizeof(double));
+}
+
 /* ---- runs in an environment; arithmetic of the test itself would be caught in it too, so there is none */
 
 static Outcome one_call(const Environment *environment, threshcinch_params params, const threshcinch_graph *graph) {
   Outcome outcome;
-  outcome.memory = memory_for(DIMS, graph);
+  outcome.memory = memory_for(DIMS, params.rounds, graph);
   outcome.told = 0;
   _mm_setcsr(environment->mxcsr);
   const threshcinch_embedded embedded = threshcinch_embed(DIMS, params, graph, &outcome.memory);
@@ -97,7 +101,7 @@ static threshcinch_answer stage(const Environment *environment, const threshcinc
 
 static Outcome held(const Environment *environment, threshcinch_params params, const threshcinch_graph *graph) {
   Outcome outcome;
-  outcome.memory = memory_for(DIMS, graph);
+  outcome.memory = memory_for(DIMS, params.rounds, graph);
   outcome.told = 0;
   _mm_setcsr(environment->mxcsr);
   threshcinch_answer answer = threshcinch_run_open(DIMS, params, graph, &outcome.memory);
@@ -112,7 +116,7 @@ static Outcome held(const Environment *environment, threshcinch_params params, c
 /* The long form, in whatever arithmetic it finds. */
 static Outcome unguarded(const Environment *environment, threshcinch_params params, const threshcinch_graph *graph) {
   Outcome outcome;
-  outcome.memory = memory_for(DIMS, graph);
+  outcome.memory = memory_for(DIMS, params.rounds, graph);
   outcome.told = 0;
   _mm_setcsr(environment->mxcsr);
   const threshcinch_embedded embedded = threshcinch_spectral_embedding(DIMS, params, THRESHCINCH_LISTS(graph, &outcome.memory));
@@ -127,6 +131,8 @@ static void try_runs(const Environment *environment, const Expected *expected) {
   Outcome one = one_call(environment, expected->params, &expected->graph), run = held(environment, expected->params, &expected->graph);
   if (!same_seed(&one, &expected->one_call)) fail("%s: the one call has other bits", environment->name);
   if (!same_seed(&run, &expected->held)) fail("%s: the held run has other bits", environment->name);
+  if (!same_record(&one, &expected->one_call)) fail("%s: the one call has another Ritz record", environment->name);
+  if (!same_record(&run, &expected->one_call)) fail("%s: the held run has another Ritz record", environment->name);
   threshcinch_memory_free(&one.memory);
   threshcinch_memory_free(&run.memory);
 }
@@ -153,7 +159,7 @@ static void try_setter(const Environment *environment) {
 
 /* A state in its second stage whose alpha is subnormal: in its range, above 0. */
 static threshcinch_state with_subnormal_alpha(const Expected *expected) {
-  threshcinch_memory memory = memory_for(DIMS, &expected->graph);
+  threshcinch_memory memory = memory_for(DIMS, expected->params.rounds, &expected->graph);
   threshcinch_answer opened = threshcinch_run_open(DIMS, expected->params, &expected->graph, &memory);
   accept("opening", opened.verdict);
   opened.state.progress.stage = 2;

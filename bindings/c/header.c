@@ -2,7 +2,8 @@
  * Status: 0, or 1 with the first thing that is wrong. */
 #include "check.h"
 
-enum { DIMS = 2, ROWS = 30 };
+/* the default parameters' rounds */
+enum { DIMS = 2, ROWS = 30, ROUNDS = 5, WIDE = DIMS + 8 };
 
 static threshcinch_verdict begin(const threshcinch_graph *graph, const threshcinch_memory *memory) {
   const threshcinch_params params = threshcinch_params_new();
@@ -26,8 +27,19 @@ static void null_lists_of_a_graph(const threshcinch_graph *graph, const threshci
   refuse("no entries for the starts", begin(&some, memory), THRESHCINCH_STARTS, ROWS);
 }
 
+/* Memory whose Ritz record alone does not do: 11 at its place where a run begins, 16 in one that is open. `memory` would do. */
+static void refused_record(const char *record, const threshcinch_graph *graph, const threshcinch_memory *memory, const threshcinch_memory *some) {
+  refuse(record, begin(graph, some), THRESHCINCH_MEMORY, 10);
+  const threshcinch_answer opened = threshcinch_run_open(DIMS, threshcinch_params_new(), graph, memory);
+  accept("opening", opened.verdict);
+  refuse(record, threshcinch_run_chunk(&opened.state, 0, graph, some).verdict, THRESHCINCH_DAMAGED, 0);
+  accept("the chunk", threshcinch_run_chunk(&opened.state, 0, graph, memory).verdict);
+  refuse(record, threshcinch_run_close(&opened.state, graph, some).verdict, THRESHCINCH_DAMAGED, 0);
+  accept("closing", threshcinch_run_close(&opened.state, graph, memory).verdict);
+}
+
 static void null_lists_of_memory(const threshcinch_graph *graph, const threshcinch_memory *memory) {
-  const threshcinch_memory none = {NULL, 5, NULL, 5, NULL, 5, NULL, 5, NULL, 5, NULL, 5, NULL, 5, NULL, 5, NULL, 5, NULL, 5};
+  const threshcinch_memory none = {NULL, 5, NULL, 5, NULL, 5, NULL, 5, NULL, 5, NULL, 5, NULL, 5, NULL, 5, NULL, 5, NULL, 5, NULL, 5};
   refuse("no memory", begin(graph, &none), THRESHCINCH_MEMORY, 0);
   threshcinch_memory some = *memory;
   some.marks = NULL;
@@ -39,13 +51,138 @@ static void null_lists_of_memory(const threshcinch_graph *graph, const threshcin
   accept("opening", opened.verdict);
   refuse("a chunk with no output", threshcinch_run_chunk(&opened.state, 0, graph, &some).verdict, THRESHCINCH_DAMAGED, 0);
   refuse("closing with no output", threshcinch_run_close(&opened.state, graph, &some).verdict, THRESHCINCH_DAMAGED, 0);
+  some = *memory;
+  some.ritz_record = NULL;
+  refused_record("no Ritz record", graph, memory, &some);
+}
+
+/* Its length depends on the rounds. Another list that is short is named first. */
+static void a_short_ritz_record(const threshcinch_graph *graph, const threshcinch_memory *memory) {
+  threshcinch_memory some = *memory;
+  some.ritz_record_length = ROUNDS * (WIDE + 1) - 1;
+  refused_record("a Ritz record that is one short", graph, memory, &some);
+  some.output_length -= 1;
+  refuse("two short lists", begin(graph, &some), THRESHCINCH_MEMORY, 9);
+}
+
+static void sizes_are(uint64_t d, uint64_t rounds, size_t rows, size_t entries, uint64_t number, size_t record) {
+  const threshcinch_sizes sizes = threshcinch_lent_sizes(d, rounds, rows, entries);
+  refuse("sizes", sizes.verdict, number, 0);
+  if (sizes.lengths[10] != record) fail("the Ritz record of %u rounds has %zu numbers", (unsigned)rounds, sizes.lengths[10]);
+  for (size_t list = 0; number && list < 11; list++)
+    if (sizes.lengths[list]) fail("list %zu has a length beside refusal %u", list, (unsigned)number);
+}
+
+static void sizes_know_the_rounds(void) {
+  sizes_are(1, 1, 1, 0, THRESHCINCH_ACCEPTED, 10);
+  sizes_are(7, 1000, 1048576, 67108864, THRESHCINCH_ACCEPTED, 16000);
+  sizes_are(2, 0, 1, 0, THRESHCINCH_ROUNDS, 0);
+  sizes_are(2, 1001, 1, 0, THRESHCINCH_ROUNDS, 0);
+  sizes_are(2, UINT64_MAX, 1, 0, THRESHCINCH_ROUNDS, 0);
+  sizes_are(8, 0, 0, 67108865, THRESHCINCH_DIMS, 0);
+  sizes_are(7, 0, 0, 67108865, THRESHCINCH_NO_ROWS, 0);
+  sizes_are(7, 0, 1, 67108865, THRESHCINCH_LIMITS, 0);
+}
+
+/* ---- the Ritz record: who writes which places, seen on numbers that no run writes */
+
+/* The same ring with values from 1 to 2: with subnormal ones no row counts, and every Ritz value is about 0.5. */
+static threshcinch_graph settling_ring(void) {
+  const threshcinch_graph graph = ring(ROWS);
+  double *values = (double *)calloc(graph.values_length, sizeof *values);
+  if (!values) fail("no memory for the graph");
+  for (size_t entry = 0; entry < graph.values_length; entry++) {
+    uint64_t bits;
+    memcpy(&bits, &graph.values[entry], sizeof bits);
+    values[entry] = number_of_bits(bits | 0x3FF0000000000000u);
+  }
+  return threshcinch_graph_of(ROWS, graph.starts, graph.columns_length, graph.columns, values);
+}
+
+static double lent_number(size_t place) {
+  return -1000.0 - (double)place;
+}
+
+static threshcinch_memory with_lent_record(const threshcinch_graph *graph) {
+  threshcinch_memory memory = memory_for(DIMS, ROUNDS, graph);
+  for (size_t place = 0; place < memory.ritz_record_length; place++) memory.ritz_record[place] = lent_number(place);
+  return memory;
+}
+
+/* So many rounds are written, as the one call has them; every place behind them is as it was lent. */
+static void rounds_written(const char *when, size_t rounds, const threshcinch_memory *memory, const threshcinch_memory *one) {
+  const size_t written = rounds * (WIDE + 1);
+  if (memcmp(memory->ritz_record, one->ritz_record, written * sizeof(double))) fail("%s: the first %zu rounds are not the one call's", when, rounds);
+  for (size_t place = written; place < memory->ritz_record_length; place++)
+    if (memory->ritz_record[place] != lent_number(place)) fail("%s: with %zu rounds closed place %zu was written", when, rounds, place);
+}
+
+static void a_held_record_grows_by_rounds(const threshcinch_graph *graph, const threshcinch_memory *one) {
+  threshcinch_memory memory = with_lent_record(graph);
+  threshcinch_answer answer = threshcinch_run_open(DIMS, threshcinch_params_new(), graph, &memory);
+  size_t closed = 0;
+  rounds_written("opening", 0, &memory, one);
+  while (threshcinch_is_open(&answer.state)) {
+    refuse("closing too early", threshcinch_run_close(&answer.state, graph, &memory).verdict, THRESHCINCH_CHUNKS_LEFT, 0);
+    rounds_written("a refused closing", closed, &memory, one);
+    accept("a chunk", threshcinch_run_chunk(&answer.state, 0, graph, &memory).verdict);
+    rounds_written("a chunk", closed, &memory, one);
+    closed += answer.state.progress.stage == 14;
+    answer = threshcinch_run_close(&answer.state, graph, &memory);
+    accept("closing", answer.verdict);
+    rounds_written("closing", closed, &memory, one);
+  }
+  if (closed != ROUNDS) fail("%zu products were closed", closed);
+  threshcinch_memory_free(&memory);
+}
+
+/* raised to 0.1 and lowered to 0.9995 */
+static double next_bound(double value) {
+  if (!(value > 0.1)) return 0.1;
+  return value < 0.9995 ? value : 0.9995;
+}
+
+static void a_record_is_what_the_header_says(const threshcinch_memory *one) {
+  if (one->ritz_record_length != ROUNDS * (WIDE + 1)) fail("the Ritz record has %zu places", one->ritz_record_length);
+  for (size_t round = 0; round < ROUNDS; round++) {
+    const double *numbers = threshcinch_ritz_round(one, DIMS, round), *values = numbers + 1;
+    const double bound = round ? next_bound(threshcinch_ritz_round(one, DIMS, round - 1)[1 + DIMS + 1]) : 0.75;
+    if (numbers[0] != bound) fail("round %zu has the bound %.17g, not %.17g", round, numbers[0], bound);
+    for (size_t place = 1; place < WIDE; place++)
+      if (!(values[place - 1] > values[place])) fail("round %zu: value %zu does not fall", round, place);
+  }
+}
+
+/* Numbers behind rounds x (k + 1) are never touched, and a refused one call touches none. */
+static void a_longer_record(const threshcinch_graph *graph, const threshcinch_memory *one) {
+  threshcinch_memory memory = with_lent_record(graph);
+  threshcinch_params params = threshcinch_params_new();
+  params.rounds = ROUNDS - 1;
+  accept("fewer rounds", threshcinch_embed(DIMS, params, graph, &memory).verdict);
+  rounds_written("fewer rounds", ROUNDS - 1, &memory, one);
+  threshcinch_memory_free(&memory);
+  memory = with_lent_record(graph);
+  params.degree = 0;
+  refuse("degree 0", threshcinch_embed(DIMS, params, graph, &memory).verdict, THRESHCINCH_DEGREE, 0);
+  rounds_written("a refused one call", 0, &memory, one);
+  threshcinch_memory_free(&memory);
+}
+
+static void ritz_record(void) {
+  const threshcinch_graph graph = settling_ring();
+  threshcinch_memory one = memory_for(DIMS, ROUNDS, &graph);
+  accept("the one call", threshcinch_embed(DIMS, threshcinch_params_new(), &graph, &one).verdict);
+  a_record_is_what_the_header_says(&one);
+  a_held_record_grows_by_rounds(&graph, &one);
+  a_longer_record(&graph, &one);
+  threshcinch_memory_free(&one);
 }
 
 /* Rows without entries: NULL is taken where an empty list is. */
 static void null_entries(void) {
   const uint64_t starts[3] = {0, 0, 0};
   const threshcinch_graph graph = threshcinch_graph_of(2, starts, 0, NULL, NULL);
-  threshcinch_memory memory = memory_for(DIMS, &graph);
+  threshcinch_memory memory = memory_for(DIMS, ROUNDS, &graph);
   accept("a graph without entries", begin(&graph, &memory));
   threshcinch_memory_free(&memory);
 }
@@ -71,7 +208,7 @@ static void a_setter_tests_its_own_number_alone(void) {
 /* Neither count moves within a stage, and together they stay the whole. */
 static void progress_counts_whole_stages(void) {
   const threshcinch_graph graph = ring(4200);
-  threshcinch_memory memory = memory_for(DIMS, &graph);
+  threshcinch_memory memory = memory_for(DIMS, ROUNDS, &graph);
   const threshcinch_answer opened = threshcinch_run_open(DIMS, threshcinch_params_new(), &graph, &memory);
   const size_t calls = (9 + 5 * (20 + 2 + 7 * (DIMS + 8))) * 3;
   if (threshcinch_run_accepted(&opened.state) != 0 || threshcinch_run_owed(&opened.state) != calls) fail("an open run owes every call");
@@ -86,14 +223,17 @@ static void progress_counts_whole_stages(void) {
 
 int main(void) {
   const threshcinch_graph graph = ring(ROWS);
-  threshcinch_memory memory = memory_for(DIMS, &graph);
+  threshcinch_memory memory = memory_for(DIMS, ROUNDS, &graph);
   accept("the graph as it is", begin(&graph, &memory));
   null_lists_of_a_graph(&graph, &memory);
   null_lists_of_memory(&graph, &memory);
+  a_short_ritz_record(&graph, &memory);
+  sizes_know_the_rounds();
+  ritz_record();
   null_entries();
   a_setter_tests_its_own_number_alone();
   progress_counts_whole_stages();
   threshcinch_memory_free(&memory);
-  printf("header: NULL lists, setters and progress are as it says\n");
+  printf("header: NULL lists, sizes, the Ritz record, setters and progress are as it says\n");
   return 0;
 }

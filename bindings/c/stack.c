@@ -76,13 +76,13 @@ static void raise_to(size_t *most, size_t bytes) {
 
 /* A whole held run of one chunk, and the one call. */
 static void measure(uint64_t d, const threshcinch_graph *graph, Most *most) {
-  threshcinch_memory memory = memory_for(d, graph);
   Call call;
   memset(&call, 0, sizeof call);
   call.d = d;
   call.params = threshcinch_params_new();
   call.params.rounds = 1;
   call.params.degree = 2;
+  threshcinch_memory memory = memory_for(d, call.params.rounds, graph);
   call.graph = graph;
   call.memory = &memory;
   raise_to(&most->embed, used(&call, embed));

@@ -4,7 +4,8 @@
  *
  * The graph is the oracle's ring `big ROWS 2`, D is 2. In each stage every thread takes the chunk with its own number and then, as it gets
  * free, the next one that nobody has; when all are done, one thread closes the stage. Repeats turn the chunk numbers, so that each thread
- * meets other rows. Every lent list and the counts are held to the one call's, the whole end state to that of a held run in one thread.
+ * meets other rows. Every lent list, the Ritz record too, and the counts are held to the one call's, the whole end state to that of a held run in
+ * one thread.
  * Each thread rounds in another direction, as a host's threads may: the short forms compute in the default arithmetic all the same, and the
  * direction is looked at afterwards. (Only the direction: valgrind keeps no more of the register. bindings/c/environment.c has the rest.)
  * Status: 0 the same, 1 a difference or a refusal, 2 bad arguments, or no memory or threads to be had.
@@ -173,6 +174,7 @@ static void same_memory(const threshcinch_memory *one, const threshcinch_memory 
   SAME(partials);
   SAME(marks);
   SAME(output);
+  SAME(ritz_record);
 }
 
 /* FNV-1a over the seed's bytes: oracle/vectors/big.txt has it for some sizes */
@@ -193,9 +195,9 @@ static size_t number_of(const char *word, size_t least, size_t most) {
   return number;
 }
 
-static threshcinch_memory memory_for(const threshcinch_graph *graph) {
+static threshcinch_memory memory_for(uint64_t rounds, const threshcinch_graph *graph) {
   threshcinch_memory memory;
-  const threshcinch_sizes sizes = threshcinch_lent_sizes(DIMS, graph->starts_length - 1, graph->columns_length);
+  const threshcinch_sizes sizes = threshcinch_lent_sizes(DIMS, rounds, graph->starts_length - 1, graph->columns_length);
   accept("sizes", sizes.verdict);
   if (!threshcinch_memory_new(&memory, sizes)) fail(2, "no memory for a run");
   return memory;
@@ -204,7 +206,7 @@ static threshcinch_memory memory_for(const threshcinch_graph *graph) {
 /* One run in threads beside the one call and the end of a run in one thread. */
 static void compare(size_t threads, size_t turn, threshcinch_params params, const threshcinch_graph *graph, const threshcinch_memory *one,
                     threshcinch_counts counts, const threshcinch_state *ended) {
-  threshcinch_memory held = memory_for(graph);
+  threshcinch_memory held = memory_for(params.rounds, graph);
   const threshcinch_state state = run_in_threads(threads, turn, params, graph, &held);
   same("the state", ended, &state, sizeof state);
   same("the counts", &counts, &state.counts, sizeof counts);
@@ -221,7 +223,7 @@ int main(int count, char **words) {
   params.degree = number_of(words[5], 1, 1000);
 
   const threshcinch_graph graph = ring(rows);
-  threshcinch_memory one = memory_for(&graph), alone = memory_for(&graph);
+  threshcinch_memory one = memory_for(params.rounds, &graph), alone = memory_for(params.rounds, &graph);
   const threshcinch_embedded embedded = threshcinch_embed(DIMS, params, &graph, &one);
   accept("the one call", embedded.verdict);
   const threshcinch_state ended = run_in_threads(1, 0, params, &graph, &alone);

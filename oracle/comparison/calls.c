@@ -3,14 +3,14 @@
 const char *const call_names[CALL_KINDS] = {"one call", "open", "chunk", "close"};
 
 const char *const list_names[LISTS] = {"starts",  "columns", "values",  "inverse weights", "v0",    "edge columns", "edge weights",
-                                       "block 0", "block 1", "block 2", "partials",        "marks", "output"};
+                                       "block 0", "block 1", "block 2", "partials",        "marks", "output",       "ritz record"};
 
-const size_t list_bytes[LISTS] = {8, 4, 8, 8, 8, 4, 8, 8, 8, 8, 8, 1, 8};
+const size_t list_bytes[LISTS] = {8, 4, 8, 8, 8, 4, 8, 8, 8, 8, 8, 1, 8, 8};
 
 #define AT(which) l->of[which].at, l->of[which].length
 #define ALL_LISTS                                                                                                                   \
   AT(STARTS), AT(COLUMNS), AT(VALUES), AT(INVERSE), AT(V0), AT(EDGE_COLUMNS), AT(EDGE_WEIGHTS), AT(BLOCK0), AT(BLOCK1), AT(BLOCK2), \
-      AT(PARTIALS), AT(MARKS), AT(OUTPUT)
+      AT(PARTIALS), AT(MARKS), AT(OUTPUT), AT(RITZ_RECORD)
 
 static void take(outcome *out, const threshcinch_answer *answer) {
   out->verdict = answer->verdict;

@@ -4,8 +4,24 @@
 
 #include "threshcinch.h"
 
-/* The graph's lists, and then lent memory in document 01's order 0 to 9. */
-enum { STARTS, COLUMNS, VALUES, INVERSE, V0, EDGE_COLUMNS, EDGE_WEIGHTS, BLOCK0, BLOCK1, BLOCK2, PARTIALS, MARKS, OUTPUT, LISTS };
+/* The graph's lists, and then lent memory in document 01's order 0 to 9 and request W1's 10. */
+enum {
+  STARTS,
+  COLUMNS,
+  VALUES,
+  INVERSE,
+  V0,
+  EDGE_COLUMNS,
+  EDGE_WEIGHTS,
+  BLOCK0,
+  BLOCK1,
+  BLOCK2,
+  PARTIALS,
+  MARKS,
+  OUTPUT,
+  RITZ_RECORD,
+  LISTS
+};
 enum { LENT = INVERSE, LENT_LISTS = LISTS - LENT };
 
 /* A list as a call gets it. Its length may be offered shorter than the room that is really there. */

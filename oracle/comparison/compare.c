@@ -1,7 +1,8 @@
 /* compare: reads what `oracle stream` writes and holds the library to it; oracle/README.md says what is compared.
  *
- *   compare [--limits] [--damaged N] [--break KIND] < STREAM
- *                              --limits also tries as many entries as are allowed; --damaged asks for at least so many damaged calls
+ *   compare [--limits] [--damaged N] [--first] [--break KIND] < STREAM
+ *                              --limits also tries as many entries as are allowed; --damaged asks for at least so many damaged calls;
+ *                              --first ends behind the first graph with a difference
  *   compare --breaks           the kinds of fault that the self-test can put in
  *
  * Status 0: no difference. 1: some. 2: the stream is cut short or not such a stream, or there is no memory. */
@@ -17,7 +18,7 @@
 
 enum { SMALL_ROWS = 1000, SMALL_REQUESTS = 4, SMALL_STEPS = 8, LARGE_REQUESTS = 2, LARGE_STEPS = 6, TOLD_EVERY = 5000 };
 
-/* The faults of the self-test; where a list is broken, the first and the last number of a list. */
+/* The faults of the self-test; where a list or a kind of call is broken, the first and the last number of one. */
 static const struct {
   const char *kind;
   int first, last;
@@ -27,9 +28,9 @@ static const struct {
                  {"refreshed", 0, 0},
                  {"zeroed", 0, 0},
                  {"graph-wrote", STARTS, VALUES},
-                 {"overrun", INVERSE, OUTPUT},
-                 {"held", STARTS, OUTPUT},
-                 {"held-overrun", INVERSE, OUTPUT},
+                 {"overrun", INVERSE, RITZ_RECORD},
+                 {"held", STARTS, RITZ_RECORD},
+                 {"held-overrun", INVERSE, RITZ_RECORD},
                  {"held-counts", 0, 0},
                  {"accepted-calls", 0, 0},
                  {"calls", 0, 0},
@@ -45,13 +46,29 @@ static const struct {
                  {"opened-state", 0, 0},
                  {"kept-state", 0, 0},
                  {"chunk-state", 0, 0},
-                 {"refused-wrote", STARTS, OUTPUT},
-                 {"chunk-wrote", STARTS, OUTPUT},
-                 {"close-wrote", STARTS, OUTPUT},
-                 {"run-wrote", STARTS, OUTPUT},
+                 {"refused-wrote", STARTS, RITZ_RECORD},
+                 {"chunk-wrote", STARTS, RITZ_RECORD},
+                 {"close-wrote", STARTS, RITZ_RECORD},
+                 {"run-wrote", STARTS, RITZ_RECORD},
                  {"setter", 0, 0},
                  {"sizes", 0, 0},
-                 {"chunks", 0, 0}};
+                 {"sizes-rounds", 0, 0},
+                 {"chunks", 0, 0},
+                 {"record-bound", 0, 0},
+                 {"record-order", 0, 0},
+                 {"record-bit", 0, 0},
+                 {"record-unwritten", 0, 0},
+                 {"record-unwritten-skipped", 0, 0},
+                 {"record-tie", 0, 0},
+                 {"held-record-bound", 0, 0},
+                 {"held-record-diagonal", 0, 0},
+                 {"held-record-unwritten", 0, 0},
+                 {"held-order", 0, 0},
+                 {"held-record-early", 0, 0},
+                 {"held-record-closed", 0, 0},
+                 {"close-record", 0, 0},
+                 {"record-short", EMBED, CLOSE},
+                 {"record-empty", EMBED, CLOSE}};
 
 static void print_breakage(const char *kind, int first, int last) {
   if (last == 0) printf("%s\n", kind);
@@ -97,11 +114,12 @@ static void compare_graph(const graph *g) {
   lists_free(&one);
 }
 
-static void compare_stream(FILE *in) {
+static void compare_stream(FILE *in, int ends_at_first) {
   uint64_t from, count;
   graph g;
   stream_begin(in, &from, &count);
   for (uint64_t i = 0; i < count; i++) {
+    if (ends_at_first && told_report.differences) return;
     stream_graph(in, &g);
     if (g.number != from + i)
       fail("the stream has graph %llu where %llu must be", (unsigned long long)g.number, (unsigned long long)(from + i));
@@ -119,24 +137,26 @@ static void print_breakages(void) {
 }
 
 typedef struct {
-  int has_limits, wants_breakages;
+  int has_limits, wants_breakages, ends_at_first;
   uint64_t least_damaged;
 } options;
 
 static options read_options(int count, char **words) {
-  options o = {0, 0, 0};
+  options o = {0, 0, 0, 0};
   for (int i = 1; i < count; i++) {
     int has_next = i + 1 < count;
     if (!strcmp(words[i], "--breaks"))
       o.wants_breakages = 1;
     else if (!strcmp(words[i], "--limits"))
       o.has_limits = 1;
+    else if (!strcmp(words[i], "--first"))
+      o.ends_at_first = 1;
     else if (!strcmp(words[i], "--damaged") && has_next)
       o.least_damaged = strtoull(words[++i], NULL, 10);
     else if (!strcmp(words[i], "--break") && has_next)
       break_choose(words[++i]);
     else
-      fail("%s is not understood: compare [--limits] [--damaged N] [--break KIND] < STREAM", words[i]);
+      fail("%s is not understood: compare [--limits] [--damaged N] [--first] [--break KIND] < STREAM", words[i]);
   }
   return o;
 }
@@ -149,7 +169,7 @@ int main(int count, char **words) {
   }
   setvbuf(stdin, NULL, _IOFBF, 1 << 20);
   if (o.has_limits) damage_at_most_entries();
-  compare_stream(stdin);
+  compare_stream(stdin, o.ends_at_first);
   report_print();
   if (told_report.damaged < o.least_damaged)
     fail("fewer damaged calls than the %llu that were asked for", (unsigned long long)o.least_damaged);

@@ -186,15 +186,22 @@ static void damage_nothing(trial *t) { note(t, "nothing", 0, 0); }
 static const char *const length_names[LISTS] = {
     "length of starts",       "length of columns",      "length of values",  "length of inverse weights", "length of v0",
     "length of edge columns", "length of edge weights", "length of block 0", "length of block 1",         "length of block 2",
-    "length of partials",     "length of marks",        "length of output"};
+    "length of partials",     "length of marks",        "length of output",  "length of ritz record"};
+
+/* Of what the call asks for, or of something beside it where that is out of the limits. */
+static void sizes_of(const trial *t, size_t need[LISTS]) {
+  int is_request = t->call.kind <= OPEN;
+  size_t dims = is_request ? (t->call.dims - 1) % 7 + 1 : t->call.state.asked.dims;
+  size_t rounds = is_request ? (t->call.params.rounds - 1) % 1000 + 1 : t->call.state.asked.rounds;
+  reading_sizes(need, dims, rounds, rows_of(t), t->before->of[COLUMNS].length);
+}
 
 /* One short more often than at its length, one longer, empty, or any shorter length. */
 static void damage_length(trial *t) {
   size_t need[LISTS];
   int which = (int)random_below(t->random, LISTS);
   list *l = &t->call.lists.of[which];
-  reading_sizes(need, t->call.kind <= OPEN ? (t->call.dims - 1) % 7 + 1 : t->call.state.asked.dims, rows_of(t),
-                t->before->of[COLUMNS].length);
+  sizes_of(t, need);
   size_t length = need[which] < l->room ? need[which] : l->room;
   const uint64_t among[] = {length - (length > 0),
                             length - (length > 0),
@@ -205,6 +212,16 @@ static void damage_length(trial *t) {
                             random_below(t->random, length + 1)};
   l->length = PICK(t, among);
   note(t, length_names[which], 0, l->length);
+}
+
+/* The last list in the order of the tests: one short, or empty. */
+static void damage_record_length(trial *t) {
+  size_t need[LISTS];
+  list *l = &t->call.lists.of[RITZ_RECORD];
+  sizes_of(t, need);
+  size_t length = need[RITZ_RECORD] < l->room ? need[RITZ_RECORD] : l->room;
+  l->length = once_in(t->random, 2) ? 0 : length - (length > 0);
+  note(t, length_names[RITZ_RECORD], 0, l->length);
 }
 
 /* A row: of the chunk at hand, of its ends, or any. The index may be that of the last row's end. */
@@ -288,7 +305,7 @@ static void damage_mark(trial *t) {
 
 /* Any lent number may be any float. */
 static void damage_memory(trial *t) {
-  static const uint64_t floats[] = {INVERSE, V0, EDGE_WEIGHTS, BLOCK0, BLOCK1, BLOCK2, PARTIALS, OUTPUT};
+  static const uint64_t floats[] = {INVERSE, V0, EDGE_WEIGHTS, BLOCK0, BLOCK1, BLOCK2, PARTIALS, OUTPUT, RITZ_RECORD};
   int which = (int)PICK(t, floats);
   size_t i = random_below(t->random, t->now->of[which].room);
   uint64_t bits = float_beside(t, 0.0, INFINITY);
@@ -406,14 +423,14 @@ static void damage_float_field(trial *t) {
 /* ---- choosing and trying */
 
 static const damage request_damages[] = {{damage_dims, 3},    {damage_rounds, 3},       {damage_degree, 3}, {damage_seed_std, 3},
-                                         {damage_length, 13}, {damage_both_lengths, 2}, {damage_start, 6},  {damage_column, 4},
+                                         {damage_length, 14}, {damage_both_lengths, 2}, {damage_start, 6},  {damage_column, 4},
                                          {damage_value, 4},   {damage_mark, 1},         {damage_memory, 1}, {damage_limits, 1},
-                                         {damage_nothing, 1}};
+                                         {damage_nothing, 1}, {damage_record_length, 2}};
 
-static const damage step_damages[] = {{damage_whole_field, 16}, {damage_stage, 3},   {damage_order, 3}, {damage_float_field, 10},
-                                      {damage_number, 4},       {damage_length, 13}, {damage_start, 8}, {damage_column, 4},
-                                      {damage_edge_column, 5},  {damage_value, 1},   {damage_mark, 5},  {damage_memory, 2},
-                                      {damage_nothing, 1}};
+static const damage step_damages[] = {{damage_whole_field, 16}, {damage_stage, 3},        {damage_order, 3}, {damage_float_field, 10},
+                                      {damage_number, 4},       {damage_length, 14},      {damage_start, 8}, {damage_column, 4},
+                                      {damage_edge_column, 5},  {damage_value, 1},        {damage_mark, 5},  {damage_memory, 2},
+                                      {damage_nothing, 1},      {damage_record_length, 2}};
 
 static void damage_by(trial *t, const damage *among, size_t count) {
   int sum = 0;

@@ -7,6 +7,7 @@
 #include "one_call.h"
 #include "random.h"
 #include "reading.h"
+#include "record.h"
 #include "report.h"
 #include "watch.h"
 
@@ -23,7 +24,9 @@ typedef struct {
 
 typedef struct {
   const graph *g;
+  const lists *one; /* what the one call left */
   lists now, before;
+  list record;               /* what the Ritz record must hold after each call */
   uint64_t first_salt, salt; /* of the pattern that lay in the needed part at first, and that lies behind it now */
   threshcinch_state state;
   random_source random;
@@ -59,6 +62,8 @@ static void do_chunk(held *h, size_t number) {
     return;
   }
   if (memcmp(&out.state, &h->state, sizeof out.state)) differ("answer", "an accepted chunk call answers another state");
+  record_break_run(&h->state, &h->now);
+  record_check(&h->record, &h->now, &h->state);
   h->accepted++;
 }
 
@@ -120,6 +125,17 @@ static void check_closed(const threshcinch_state *old, threshcinch_state *new, c
     if (item(now, MARKS, i)) differ("marks", "closing stage %zu leaves mark %zu", old->progress.stage, i);
 }
 
+/* Closing the products writes its round's places; they are held to the states on both sides and to the one call's end. */
+static void check_record(held *h, const threshcinch_state *old, threshcinch_state *new) {
+  if (record_is_written(old)) {
+    if (breaks("held-order")) new->order[0] = new->order[1];
+    record_break_closing(&h->record, old, new, &h->now);
+    record_check_closing(old, new, &h->now, "closing the products");
+    record_closed(&h->record, h->one, old);
+  }
+  record_check(&h->record, &h->now, old);
+}
+
 static void do_close(held *h) {
   call c;
   outcome out;
@@ -129,6 +145,7 @@ static void do_close(held *h) {
     lost(h, "closing", &out);
     return;
   }
+  check_record(h, &c.state, &out.state);
   check_closed(&c.state, &out.state, &h->now, h->chunks);
   h->state = out.state;
   h->accepted++;
@@ -191,7 +208,7 @@ static void move(held *h) {
   lists fresh;
   size_t need[LISTS];
   if (!has_room_for_copy(h)) return;
-  reading_sizes(need, h->g->dims, h->g->rows, h->g->entries);
+  reading_sizes(need, h->g->dims, h->g->rounds, h->g->rows, h->g->entries);
   int which = lists_first_overrun(&h->now, need, h->salt);
   if (which < LISTS) differ("overrun", "a held run wrote behind its part of %s", list_names[which]);
   h->salt = random_next(&h->random);
@@ -201,6 +218,7 @@ static void move(held *h) {
   lists_free(&h->before);
   h->now = fresh;
   lists_like(&h->before, &h->now);
+  record_begin(&h->record, &h->now);
   told_report.moves++;
 }
 
@@ -260,15 +278,17 @@ static void do_stage(held *h) {
   if (!h->is_lost) do_close(h);
 }
 
-static void begin(held *h, const graph *g, uint64_t salt, int trials) {
+static void begin(held *h, const graph *g, const lists *one, uint64_t salt, int trials) {
   memset(h, 0, sizeof *h);
   h->g = g;
+  h->one = one;
   h->random.state = random_hash(salt);
   h->first_salt = h->salt = salt;
   h->chunks = reading_chunks(g->rows);
   h->copies_left = COPIED_BYTES;
   lists_new(&h->now, g, salt);
   lists_like(&h->before, &h->now);
+  record_begin(&h->record, &h->now);
   for (int i = 0; i < TARGETS; i++) choose_target(h, &h->targets[i], trials / TARGETS);
 }
 
@@ -283,34 +303,34 @@ static void open_run(held *h) {
   h->state = out.state;
 }
 
-static int is_number_alike(const held *h, const lists *one, uint64_t one_salt, int which, size_t i) {
-  uint64_t ours = item(&h->now, which, i), theirs = item(one, which, i);
+static int is_number_alike(const held *h, uint64_t one_salt, int which, size_t i) {
+  uint64_t ours = item(&h->now, which, i), theirs = item(h->one, which, i);
   if (is_same(which, ours, theirs)) return 1;
   return ours == pattern(h->first_salt, which, i) && theirs == pattern(one_salt, which, i);
 }
 
 /* Each number is the same, or was written by neither. */
-static void compare_list(const held *h, const lists *one, uint64_t one_salt, int which, size_t need) {
+static void compare_list(const held *h, uint64_t one_salt, int which, size_t need) {
   size_t i = 0;
-  while (i < need && is_number_alike(h, one, one_salt, which, i)) i++;
+  while (i < need && is_number_alike(h, one_salt, which, i)) i++;
   if (i < need)
     differ("held list", "%s, number %zu: %016llx after the held run, %016llx after the one call", list_names[which], i,
-           (unsigned long long)item(&h->now, which, i), (unsigned long long)item(one, which, i));
+           (unsigned long long)item(&h->now, which, i), (unsigned long long)item(h->one, which, i));
 }
 
-static void compare_lists(held *h, const lists *one, uint64_t one_salt) {
+static void compare_lists(held *h, uint64_t one_salt) {
   size_t need[LISTS];
-  reading_sizes(need, h->g->dims, h->g->rows, h->g->entries);
+  reading_sizes(need, h->g->dims, h->g->rounds, h->g->rows, h->g->entries);
   for (int which = 0; which < LISTS; which++) {
     if (need[which] && breaks_list("held", which)) set_item(&h->now, which, need[which] - 1, item(&h->now, which, need[which] - 1) ^ 1);
-    compare_list(h, one, one_salt, which, need[which]);
+    compare_list(h, one_salt, which, need[which]);
     if (breaks_list("held-overrun", which)) set_item(&h->now, which, need[which], item(&h->now, which, need[which]) ^ 1);
   }
   int which = lists_first_overrun(&h->now, need, h->salt);
   if (which < LISTS) differ("overrun", "a held run wrote behind its part of %s", list_names[which]);
 }
 
-static void end_run(held *h, const lists *one, uint64_t one_salt, threshcinch_counts counts) {
+static void end_run(held *h, uint64_t one_salt, threshcinch_counts counts) {
   call c;
   step(h, &c, CHUNK, 0);
   refused(h, &c, "a chunk after the end");
@@ -321,7 +341,7 @@ static void end_run(held *h, const lists *one, uint64_t one_salt, threshcinch_co
   if (h->accepted != stages_of(h) * (h->chunks + 1))
     differ("calls", "%zu calls were accepted, not %zu", h->accepted, stages_of(h) * (h->chunks + 1));
   if (memcmp(&h->state.counts, &counts, sizeof counts)) differ("held counts", "the held run's counts are not the one call's");
-  compare_lists(h, one, one_salt);
+  compare_lists(h, one_salt);
 }
 
 /* A run that refreshes every column of every round has twice the column stages. */
@@ -329,13 +349,14 @@ static size_t most_calls(const held *h) { return (stages_of(h) + 7 * width(h) * 
 
 void held_run(const graph *g, const lists *one, uint64_t one_salt, const threshcinch_counts *counts, uint64_t salt, int trials) {
   held h;
-  begin(&h, g, salt, trials);
+  begin(&h, g, one, salt, trials);
   open_run(&h);
   while (!h.is_lost && reading_is_open(&h.state) && h.accepted <= most_calls(&h)) do_stage(&h);
   if (!h.is_lost && reading_is_open(&h.state)) differ("held run", "it does not end");
-  if (!h.is_lost) end_run(&h, one, one_salt, *counts);
+  if (!h.is_lost) end_run(&h, one_salt, *counts);
   told_report.held_runs++;
   told_report.accepted_calls += h.accepted;
   lists_free(&h.now);
   lists_free(&h.before);
+  free(h.record.at);
 }

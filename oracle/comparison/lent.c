@@ -26,12 +26,21 @@ static void copy_graph(lists *l, const graph *g) {
   memcpy(l->of[VALUES].at, g->values, g->entries * 8);
 }
 
+/* How many entries a list has behind those that are needed. One Ritz record in sixteen has room for the most rounds, so that requests with
+ * more rounds than the graph's are taken as well. */
+static size_t more_of(const graph *g, int which, uint64_t salt) {
+  uint64_t drawn = random_hash(salt ^ (uint64_t)which);
+  size_t more = which < LENT ? 2 : 1 + drawn % 5;
+  if (which == RITZ_RECORD && drawn / 5 % 16 == 0) more += (1000 - g->rounds) * reading_record_width(g->dims);
+  return more;
+}
+
 /* A graph's lists are offered at their own length and have two more entries behind them; lent memory is offered whole. */
 void lists_new(lists *l, const graph *g, uint64_t salt) {
   size_t need[LISTS];
-  reading_sizes(need, g->dims, g->rows, g->entries);
+  reading_sizes(need, g->dims, g->rounds, g->rows, g->entries);
   for (int which = 0; which < LISTS; which++) {
-    size_t more = which < LENT ? 2 : 1 + random_hash(salt ^ (uint64_t)which) % 5;
+    size_t more = more_of(g, which, salt);
     take_list(l, which, which < LENT ? need[which] : need[which] + more, need[which] + more);
     fill(l, which, salt);
   }

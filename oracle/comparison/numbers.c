@@ -57,14 +57,18 @@ static void try_sizes(random_source *random) {
   static const size_t entries[] = {0, 1, 67108863, 67108864, 67108865, SIZE_MAX};
   uint64_t d = dims[random_below(random, sizeof dims / sizeof *dims)];
   size_t n = rows[random_below(random, sizeof rows / sizeof *rows)], e = entries[random_below(random, sizeof entries / sizeof *entries)];
-  threshcinch_verdict due = reading_sizes_verdict(d, n, e);
+  uint64_t rounds = some_whole(random);
+  threshcinch_verdict due = reading_sizes_verdict(d, rounds, n, e);
   size_t need[LISTS] = {0};
-  if (due.number == 0) reading_sizes(need, d, n, e);
-  threshcinch_sizes sizes = threshcinch_lent_sizes(d, n, e);
-  if (breaks("sizes")) sizes.lengths[9]++;
+  if (due.number == 0) reading_sizes(need, d, rounds, n, e);
+  threshcinch_sizes sizes = threshcinch_lent_sizes(d, rounds, n, e);
+  _Static_assert(sizeof sizes.lengths / sizeof *sizes.lengths == LENT_LISTS, "a length for each lent list");
+  if (breaks("sizes")) sizes.lengths[LENT_LISTS - 1]++;
+  if (due.number == 8 && breaks("sizes-rounds")) sizes.verdict.number = 0;
   int is_right =
       sizes.verdict.number == due.number && sizes.verdict.place == due.place && !memcmp(sizes.lengths, need + LENT, sizeof sizes.lengths);
-  if (!is_right) differ("sizes", "sizes of D=%llu rows=%zu entries=%zu", (unsigned long long)d, n, e);
+  if (!is_right)
+    differ("sizes", "sizes of D=%llu rounds=%llu rows=%zu entries=%zu", (unsigned long long)d, (unsigned long long)rounds, n, e);
   size_t chunks = threshcinch_chunk_count(n) + (size_t)breaks("chunks");
   if (chunks != reading_chunks(n)) differ("chunks", "chunk count of %zu rows is %zu", n, chunks);
   told_report.numbers_calls += 2;

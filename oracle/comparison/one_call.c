@@ -4,6 +4,7 @@
 
 #include "lent.h"
 #include "reading.h"
+#include "record.h"
 #include "report.h"
 
 void request_of(call *c, const graph *g, const lists *l) {
@@ -25,8 +26,7 @@ static enum skip skip_of(const graph *g) {
   return g->falls ? COMPARED : SKIPPED_NOT_FALLING;
 }
 
-/* On a graph with an empty row, or a row of minus zeros only, zeros of either sign match. */
-static int is_number_right(const graph *g, uint64_t ours, uint64_t rusts) {
+int is_rusts(const graph *g, uint64_t ours, uint64_t rusts) {
   if (is_same(OUTPUT, ours, rusts)) return 1;
   return g->empty && (ours << 1) == 0 && (rusts << 1) == 0;
 }
@@ -35,7 +35,7 @@ static size_t first_other(const graph *g, const lists *l) {
   lists rust;
   rust.of[OUTPUT].at = g->seed;
   size_t i = 0, count = g->rows * g->dims;
-  while (i < count && is_number_right(g, item(l, OUTPUT, i), item(&rust, OUTPUT, i))) i++;
+  while (i < count && is_rusts(g, item(l, OUTPUT, i), item(&rust, OUTPUT, i))) i++;
   return i;
 }
 
@@ -67,7 +67,7 @@ static void compare_counts(const graph *g, const threshcinch_counts *counts, enu
 
 static void compare_rest(const graph *g, lists *l, uint64_t salt) {
   size_t need[LISTS];
-  reading_sizes(need, g->dims, g->rows, g->entries);
+  reading_sizes(need, g->dims, g->rounds, g->rows, g->entries);
   for (int which = LENT; which < LISTS; which++)
     if (breaks_list("overrun", which)) set_item(l, which, need[which], item(l, which, need[which]) ^ 1);
   int which = lists_first_overrun(l, need, salt);
@@ -101,6 +101,7 @@ int one_call(const graph *g, lists *l, uint64_t salt, threshcinch_counts *counts
   }
   compare_seed(g, l, skip);
   compare_counts(g, &out.counts, skip);
+  record_compare(g, l, salt);
   compare_rest(g, l, salt);
   *counts = out.counts;
   return 1;

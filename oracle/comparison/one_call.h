@@ -8,8 +8,11 @@
 /* The request of a graph, its parameters set by the library's setters. */
 void request_of(call *c, const graph *g, const lists *l);
 
-/* Makes the call on lists that hold the salt's pattern, and compares seed, counts and what lies behind the lists. Answers 0 where it was
- * refused, which is a difference. */
+/* Whether a number is the Rust's: a NaN is any NaN; with an empty row, or a row of minus zeros only, zeros of either sign match. */
+int is_rusts(const graph *g, uint64_t ours, uint64_t rusts);
+
+/* Makes the call on lists that hold the salt's pattern, and compares seed, counts, Ritz record and what lies behind the lists. Answers 0
+ * where it was refused, which is a difference. */
 int one_call(const graph *g, lists *l, uint64_t salt, threshcinch_counts *counts);
 
 #endif

@@ -19,10 +19,12 @@ int reading_takes_whole(uint64_t x) { return 1 <= x && x <= MOST_STEPS; }
 
 int reading_takes_seed_std(double x) { return x > 0.0 && x < INFINITY; }
 
-void reading_sizes(size_t need[LISTS], size_t dims, size_t rows, size_t entries) {
-  size_t k = dims + EXTRA_COLUMNS, chunks = reading_chunks(rows);
-  size_t sizes[LISTS] = {rows + 1, entries,  entries,  rows,           rows,   entries,    entries,
-                         rows * k, rows * k, rows * k, chunks * k * k, chunks, rows * dims};
+size_t reading_record_width(size_t dims) { return dims + EXTRA_COLUMNS + 1; }
+
+void reading_sizes(size_t need[LISTS], size_t dims, size_t rounds, size_t rows, size_t entries) {
+  size_t k = dims + EXTRA_COLUMNS, chunks = reading_chunks(rows), record = rounds * reading_record_width(dims);
+  size_t sizes[LISTS] = {rows + 1, entries,  entries,  rows,           rows,   entries,     entries,
+                         rows * k, rows * k, rows * k, chunks * k * k, chunks, rows * dims, record};
   memcpy(need, sizes, sizeof sizes);
 }
 
@@ -56,18 +58,19 @@ static threshcinch_verdict fault_of_graph(const lists *l) {
 }
 
 /* the first list, of those from `from` on, that is shorter than it must be, or LISTS */
-static int first_short(const lists *l, int from, size_t dims, size_t rows, size_t entries) {
+static int first_short(const lists *l, int from, size_t dims, size_t rounds, size_t rows, size_t entries) {
   size_t need[LISTS];
-  reading_sizes(need, dims, rows, entries);
+  reading_sizes(need, dims, rounds, rows, entries);
   int which = from;
   while (which < LISTS && need[which] <= l->of[which].length) which++;
   return which;
 }
 
-threshcinch_verdict reading_sizes_verdict(uint64_t d, size_t rows, size_t entries) {
+threshcinch_verdict reading_sizes_verdict(uint64_t d, uint64_t rounds, size_t rows, size_t entries) {
   if (d < 1 || d > MOST_DIMS) return told(1, 0);
   if (rows < 1) return told(2, 0);
-  return rows > MOST_ROWS || entries > MOST_ENTRIES ? told(3, 0) : told(0, 0);
+  if (rows > MOST_ROWS || entries > MOST_ENTRIES) return told(3, 0);
+  return reading_takes_whole(rounds) ? told(0, 0) : told(8, 0);
 }
 
 static threshcinch_verdict fault_of_request(const call *c) {
@@ -82,7 +85,7 @@ static threshcinch_verdict fault_of_request(const call *c) {
   if (!reading_takes_whole(c->params.rounds)) return told(8, 0);
   if (!reading_takes_whole(c->params.degree)) return told(9, 0);
   if (!reading_takes_seed_std(c->params.seed_std)) return told(10, 0);
-  int lent = first_short(l, LENT, c->dims, starts - 1, columns);
+  int lent = first_short(l, LENT, c->dims, c->params.rounds, starts - 1, columns);
   return lent < LISTS ? told(11, (uint64_t)(lent - LENT)) : told(0, 0);
 }
 
@@ -145,7 +148,7 @@ static int are_rows_sound(const threshcinch_state *s, const lists *l, size_t num
 }
 
 static int are_lists_long_enough(const threshcinch_state *s, const lists *l) {
-  return first_short(l, STARTS, s->asked.dims, s->asked.rows, s->asked.entries) == LISTS;
+  return first_short(l, STARTS, s->asked.dims, s->asked.rounds, s->asked.rows, s->asked.entries) == LISTS;
 }
 
 static int is_sound_for_chunk(const call *c) {

@@ -79,6 +79,15 @@ static void print_families(void) {
   print_family("all", sums, same);
 }
 
+static void print_rounds(void) {
+  const report *r = &told_report;
+  printf(
+      "\nThe one call's Ritz record against the Rust's, in rounds: compared bit for bit %llu, and with a tie, zeros of either sign alike, "
+      "%llu; skipped: a column twice %llu, a NaN in the run %llu (skipped, yet the same %llu)\n",
+      of(r->rounds[ROUND_WHOLE]), of(r->rounds[ROUND_TIE]), of(r->rounds[ROUND_TWICE]), of(r->rounds[ROUND_NAN]),
+      of(r->rounds_same_though_skipped));
+}
+
 static void print_row(const char *name, const uint64_t *counts, const char *const *labels, int count) {
   printf("  by %s:", name);
   for (int i = 0; i < count; i++) printf("  %s: %llu", labels[i], of(counts[i]));
@@ -108,6 +117,9 @@ static void print_held(void) {
       "\nHeld runs against the one call, in every list: %llu; stages closed %llu; calls accepted %llu; gone on with in other memory %llu "
       "times\n",
       of(r->held_runs), of(r->held_stages), of(r->accepted_calls), of(r->moves));
+  printf(
+      "  the Ritz record looked at after each of these calls; closings of products, damaged ones among them, held to their states %llu\n",
+      of(r->record_closings));
   printf("Refused calls among them, by number:");
   print_refusals(r->refused_calls);
 }
@@ -138,6 +150,7 @@ static void print_damages(void) {
 void report_print(void) {
   print_sizes();
   print_families();
+  print_rounds();
   print_held();
   print_damages();
   printf("\nDifferences: %llu\n", of(told_report.differences));

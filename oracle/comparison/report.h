@@ -10,10 +10,15 @@ enum { FAMILIES = 16, REFUSALS = 18 };
 /* why a graph is not compared bit for bit: the first of these that it meets */
 enum skip { COMPARED, SKIPPED_TWICE, SKIPPED_NAN, SKIPPED_NOT_FALLING, SKIPS };
 
+/* How a round's part of the Ritz record is compared with the Rust's: the last of these that it meets. Where two values of the round tie,
+ * zeros of either sign match; after a column twice or a NaN anywhere in the run it is not compared. */
+enum round_kind { ROUND_WHOLE, ROUND_TIE, ROUND_NAN, ROUND_TWICE, ROUND_KINDS };
+
 typedef struct {
   const graph *at_hand;
   uint64_t graphs, defaults, most_rows;
   uint64_t by_family[FAMILIES][SKIPS], same_though_skipped[FAMILIES];
+  uint64_t rounds[ROUND_KINDS], rounds_same_though_skipped, record_closings;
   uint64_t by_dims[8], by_rows[5], by_chunks[7];
   uint64_t held_runs, held_stages, moves;
   uint64_t accepted_calls, refused_calls[REFUSALS]; /* of the held runs, undamaged */

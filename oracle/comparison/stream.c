@@ -67,14 +67,16 @@ static void *get_list(FILE *in, size_t length, size_t bytes) {
 }
 
 void stream_graph(FILE *in, graph *g) {
-  get_word(in, "TCGRAPH1");
+  get_word(in, "TCGRAPH2");
   get_numbers(in, g);
-  if (g->family > 15 || g->dims < 1 || g->dims > 7 || g->rows < 1 || g->rows > 1048576 || g->entries > 67108864)
+  if (g->family > 15 || g->dims < 1 || g->dims > 7 || g->rows < 1 || g->rows > 1048576 || g->entries > 67108864 || g->rounds < 1 ||
+      g->rounds > 1000)
     fail("the stream has a graph out of the limits");
   g->starts = get_list(in, g->rows + 1, 8);
   g->columns = get_list(in, g->entries, 4);
   g->values = get_list(in, g->entries, 8);
   g->seed = get_list(in, g->rows * g->dims, 8);
+  g->record = get_list(in, g->rounds * (g->dims + 9), 8);
 }
 
 void stream_end(FILE *in, uint64_t count) {
@@ -88,4 +90,5 @@ void graph_free(graph *g) {
   free(g->columns);
   free(g->values);
   free(g->seed);
+  free(g->record);
 }

@@ -16,6 +16,7 @@ typedef struct {
   uint32_t *columns;
   double *values;
   double *seed;
+  double *record; /* round by round the bound that its filter used, then its Ritz values in the Rust's order */
 } graph;
 
 /* These end the program with status 2 where the stream is short or not such a stream. */

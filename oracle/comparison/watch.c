@@ -3,6 +3,7 @@
 #include <string.h>
 
 #include "reading.h"
+#include "record.h"
 #include "report.h"
 
 /* What an accepted chunk call may write: entries from first up to last; where `width` is not 0, one column of rows of that width. */
@@ -126,9 +127,12 @@ static int are_marks_cleared(const lists *now, const lists *before, size_t chunk
   return is_part_kept(now, before, MARKS, chunks, now->of[MARKS].room);
 }
 
-static void check_all_kept(const lists *now, const lists *before, int but, const char *words) {
-  for (int which = 0; which < LISTS; which++)
-    if (which != but && !is_list_kept(now, before, which)) differ("memory changed", "%s changed %s", words, list_names[which]);
+static void check_kept(const lists *now, const lists *before, int which, const char *words) {
+  if (!is_list_kept(now, before, which)) differ("memory changed", "%s changed %s", words, list_names[which]);
+}
+
+static void check_all_kept(const lists *now, const lists *before, const char *words) {
+  for (int which = 0; which < LISTS; which++) check_kept(now, before, which, words);
 }
 
 /* ---- the calls */
@@ -136,21 +140,20 @@ static void check_all_kept(const lists *now, const lists *before, int but, const
 static void check_chunk_work(const call *c, const lists *now, const lists *before, const char *words) {
   int second;
   region r = written(c, &second);
-  for (int which = 0; which < MARKS; which++) {
+  for (int which = 0; which < LISTS; which++) {
+    if (which == MARKS) continue;
     int is_right = which == r.which || which == second ? is_region_kept_to(now, before, r, which) : is_list_kept(now, before, which);
     if (!is_right)
       differ("chunk work elsewhere", "%s in stage %zu, chunk %zu, wrote elsewhere in %s", words, c->state.progress.stage, c->number,
              list_names[which]);
   }
-  int is_output_kept = r.which == OUTPUT ? is_region_kept_to(now, before, r, OUTPUT) : is_list_kept(now, before, OUTPUT);
-  if (!is_output_kept) differ("chunk work elsewhere", "%s in stage %zu wrote elsewhere in output", words, c->state.progress.stage);
   if (!is_mark_set(now, before, c->number)) differ("marks", "%s did not set its own mark alone", words);
 }
 
 /* Lent memory is written as far as the run needs it. */
 static void check_run_work(const call *c, const lists *now, const lists *before, const char *words) {
   size_t need[LISTS], rows = c->lists.of[STARTS].length - 1;
-  reading_sizes(need, c->dims, rows, c->lists.of[COLUMNS].length);
+  reading_sizes(need, c->dims, c->params.rounds, rows, c->lists.of[COLUMNS].length);
   for (int which = 0; which < LISTS; which++) {
     size_t from = which < LENT ? 0 : need[which];
     if (!is_part_kept(now, before, which, from, now->of[which].room))
@@ -175,7 +178,20 @@ threshcinch_state opened_state(const call *c) {
   return s;
 }
 
-static void check_accepted(const call *c, const lists *now, const lists *before, const char *words) {
+/* Closing the products writes its round's places of the Ritz record, and nothing beside them; opening and every other closing write none.
+ */
+static void check_record(const call *c, const outcome *out, const lists *now, const lists *before, const char *words) {
+  if (c->kind != CLOSE || !record_is_written(&c->state)) {
+    check_kept(now, before, RITZ_RECORD, words);
+    return;
+  }
+  size_t first = record_place(&c->state), last = first + reading_record_width(c->state.asked.dims);
+  if (!is_region_kept_to(now, before, region_of(RITZ_RECORD, first, last), RITZ_RECORD))
+    differ("record", "%s wrote to the Ritz record beside the places of round %zu", words, c->state.progress.round);
+  record_check_closing(&c->state, &out->state, now, words);
+}
+
+static void check_accepted(const call *c, const outcome *out, const lists *now, const lists *before, const char *words) {
   switch (c->kind) {
     case EMBED:
       check_run_work(c, now, before, words);
@@ -187,7 +203,9 @@ static void check_accepted(const call *c, const lists *now, const lists *before,
       break;
   }
   size_t rows = c->kind == OPEN ? c->lists.of[STARTS].length - 1 : c->state.asked.rows;
-  check_all_kept(now, before, MARKS, words);
+  for (int which = 0; which < MARKS; which++) check_kept(now, before, which, words);
+  check_kept(now, before, OUTPUT, words);
+  check_record(c, out, now, before, words);
   if (!are_marks_cleared(now, before, reading_chunks(rows))) differ("marks", "%s did not clear the first marks alone", words);
 }
 
@@ -218,6 +236,32 @@ static int is_answer_right(const call *c, const outcome *out, int is_accepted) {
   }
 }
 
+/* The Ritz record as the call got it: one short, or empty. */
+static int is_record_short_by(const call *c, int is_empty) {
+  size_t dims = c->kind <= OPEN ? c->dims : c->state.asked.dims, rounds = c->kind <= OPEN ? c->params.rounds : c->state.asked.rounds;
+  size_t length = c->lists.of[RITZ_RECORD].length;
+  return is_empty ? length == 0 : length + 1 == rounds * reading_record_width(dims);
+}
+
+/* Faults in what answers such a list: another place, or another number where the place is always 0. */
+static void break_short_record(const call *c, outcome *out) {
+  int is_told = c->kind <= OPEN ? out->verdict.number == 11 && out->verdict.place == 10 : out->verdict.number == 16;
+  int is_hit = is_told && is_record_short_by(c, 0) && breaks_list("record-short", c->kind);
+  is_hit = is_hit || (is_told && is_record_short_by(c, 1) && breaks_list("record-empty", c->kind));
+  if (!is_hit) return;
+  if (c->kind <= OPEN)
+    out->verdict.place = 9;
+  else
+    out->verdict.number = 15;
+}
+
+/* The fault of a closing that writes another number. */
+static void break_closing(const call *c, lists *now) {
+  if (c->kind != CLOSE || !record_is_written(&c->state) || !breaks("close-record")) return;
+  size_t first = record_place(&c->state);
+  set_item(now, RITZ_RECORD, first, item(now, RITZ_RECORD, first) ^ 1);
+}
+
 /* The self-test's faults, in what was seen of a refused and of an accepted call. */
 static void break_some(const call *c, const lists *now, outcome *out) {
   int is_accepted = out->verdict.number == 0;
@@ -230,6 +274,8 @@ static void break_some(const call *c, const lists *now, outcome *out) {
     size_t last = l.of[which].room - 1;
     if (is_hit) set_item(&l, which, last, item(&l, which, last) ^ 1);
   }
+  if (is_accepted) break_closing(c, &l);
+  break_short_record(c, out);
   if (!is_accepted && breaks("number")) out->verdict.number = out->verdict.number % 16 + 1;
   if (!is_accepted && breaks("place")) out->verdict.place++;
   if (is_accepted && breaks("accepted")) out->verdict.number = 16;
@@ -253,8 +299,8 @@ int watched(const call *c, const lists *now, const lists *before, outcome *out, 
   }
   if (!is_answer_right(c, out, is_accepted)) differ("answer", "%s answers other counts or another state than it must", words);
   if (is_accepted)
-    check_accepted(c, now, before, words);
+    check_accepted(c, out, now, before, words);
   else
-    check_all_kept(now, before, LISTS, words);
+    check_all_kept(now, before, words);
   return is_accepted || told_report.differences != differences;
 }

@@ -31,6 +31,9 @@ static const char *const right_decimals[] = {"0",
                                              "63",
                                              "64",
                                              "65",
+                                             "399",
+                                             "400",
+                                             "401",
                                              "1000",
                                              "1001",
                                              "1023",
@@ -133,6 +136,14 @@ const char *any_wrong_decimal(random_source *r) { return PICK(r, wrong_decimals)
 const char *any_right_float(random_source *r) { return PICK(r, right_floats); }
 
 const char *any_wrong_float(random_source *r) { return PICK(r, wrong_floats); }
+
+/* Half of them are taken, 400 most often. 4294967696 is 2^32 + 400 and 9223372036854775808 is 2^63. */
+const char *any_rounds(random_source *r) {
+  static const char *const taken[] = {"0", "1", "40", "399", "399", "400", "400", "400"};
+  static const char *const not_taken[] = {"401",  "402",  "500",  "999",        "1000",       "1001",
+                                          "1400", "4000", "4001", "4294967297", "4294967696", "9223372036854775808"};
+  return once_in(r, 2) ? PICK(r, taken) : PICK(r, not_taken);
+}
 
 /* ---- stored files */
 
@@ -274,10 +285,24 @@ static void make_head(text *t, random_source *r) {
   add_all(t, &f, r);
 }
 
-/* The longest file that is right, of 30,164 bytes: no right one reaches 32 KiB. Its answer is a refusal. */
+/* Rounds at their limits. A run of 400 rounds is dear, so that D is 1 and the graph tiny. D, degree and the number of values are sometimes
+ * wrong, since line 2 is told behind line 1, and before whatever later lines and the table of refusals say. */
+static void make_rounds(text *t, random_source *r) {
+  static const char *const dims[] = {"1", "1", "1", "1", "0", "9", "01"}, *const degrees[] = {"1", "1", "1", "1", "0", "x"};
+  draft f = small_draft(r);
+  f.d = PICK(r, dims);
+  f.rounds = any_rounds(r);
+  f.degree = PICK(r, degrees);
+  f.start_count = 2 + random_below(r, 2);
+  f.column_count = random_below(r, 4);
+  f.value_count = f.column_count + (size_t)once_in(r, 10);
+  add_all(t, &f, r);
+}
+
+/* The longest file that is right, of 30,147 bytes: no right one reaches 32 KiB. Its answer is a refusal. */
 static void make_longest(text *t, random_source *r) {
   static const char longest[] = "18446744073709551615";
-  draft f = {longest, longest, longest, "ffffffffffffffff", MOST_STARTS, MOST_ENTRIES, MOST_ENTRIES, 1};
+  draft f = {longest, "400", longest, "ffffffffffffffff", MOST_STARTS, MOST_ENTRIES, MOST_ENTRIES, 1};
   add_all(t, &f, r);
 }
 
@@ -301,8 +326,8 @@ static void make_floats(text *t, random_source *r) {
 }
 
 static void make_any(text *t, random_source *r) {
-  static void (*const makers[])(text *, random_source *) = {make_small, make_small, make_small,   make_sizes,
-                                                            make_head,  make_most,  make_longest, make_floats};
+  static void (*const makers[])(text *, random_source *) = {make_small, make_small,  make_small,   make_sizes, make_head,
+                                                            make_most,  make_rounds, make_longest, make_floats};
   PICK(r, makers)(t, r);
 }
 

@@ -22,4 +22,7 @@ const char *any_wrong_decimal(random_source *r);
 const char *any_right_float(random_source *r);
 const char *any_wrong_float(random_source *r);
 
+/* rounds at and beside the most that are taken, and far above it */
+const char *any_rounds(random_source *r);
+
 #endif

@@ -8,14 +8,15 @@
 
 enum { MOST_ROWS = 64, MOST_DIMS = 7, MOST_WIDTH = 15, ROOM_MORE = 64, TEXT_FAULT = 17 };
 
-/* Steps are run_cost's; a million took about two milliseconds. Up to CHEAP every run is asked for, up to DEAR one in DEAR_SHARE. */
+/* Steps are run_cost's; a million took about two milliseconds. Up to CHEAP every run is asked for, up to DEAR one in DEAR_SHARE and those
+ * of the most rounds. */
 static const uint64_t CHEAP = 1000000, DEAR = 10000000, DEAR_SHARE = 8;
 
 /* ---- the library's one call on the numbers of a run file */
 
 static uint32_t columns[MOST_ENTRIES], edge_columns[MOST_ENTRIES];
 static double values[MOST_ENTRIES], edge_weights[MOST_ENTRIES], inverse[MOST_ROWS], v0[MOST_ROWS], output[MOST_ROWS * MOST_DIMS];
-static double blocks[3][MOST_ROWS * MOST_WIDTH], partials[MOST_WIDTH * MOST_WIDTH];
+static double blocks[3][MOST_ROWS * MOST_WIDTH], partials[MOST_WIDTH * MOST_WIDTH], ritz_record[MOST_ROUNDS * (MOST_WIDTH + 1)];
 static uint8_t marks[1];
 
 static void set_list(call *c, int which, void *at, size_t length) {
@@ -42,6 +43,7 @@ static void set_memory(call *c) {
   set_list(c, PARTIALS, partials, MOST_WIDTH * MOST_WIDTH);
   set_list(c, MARKS, marks, 1);
   set_list(c, OUTPUT, output, MOST_ROWS * MOST_DIMS);
+  set_list(c, RITZ_RECORD, ritz_record, MOST_ROUNDS * (MOST_WIDTH + 1));
 }
 
 static void set_call(call *c, const plain_run *run) {
@@ -109,6 +111,7 @@ static void due_seed(due_text *due, const plain_run *run, const call *c) {
   due_head(due, rows, &out.counts);
   due_rows(due, rows, run->d);
   told.rows += rows;
+  told.longest_runs += run->rounds == MOST_ROUNDS;
 }
 
 /* Succeeds unless the run is not asked for. */
@@ -127,7 +130,7 @@ static int find_due(due_text *due, int *number, const plain_run *run, random_sou
     return 1;
   }
   uint64_t cost = run_cost(run);
-  int is_drawn = cost <= CHEAP || once_in(r, DEAR_SHARE);
+  int is_drawn = cost <= CHEAP || run->rounds == MOST_ROUNDS || once_in(r, DEAR_SHARE);
   told.too_dear += cost > DEAR;
   told.not_drawn += cost <= DEAR && !is_drawn;
   if (cost > DEAR || !is_drawn) return 0;

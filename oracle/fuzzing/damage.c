@@ -221,6 +221,12 @@ static void number_small(text *t, random_source *r) {
   text_replace(t, number, with, strlen(with));
 }
 
+/* Line 2 has a limit of its own. */
+static void rounds_replaced(text *t, random_source *r) {
+  const char *with = any_rounds(r);
+  text_replace(t, text_list(t, 1), with, strlen(with));
+}
+
 static void leading_zero(text *t, random_source *r) {
   size_t line;
   add_byte(t, text_any_number(t, r, &line).from, '0');
@@ -368,6 +374,7 @@ static const damage damages[] = {{"none", nothing},
                                  {"a number replaced by a right one", number_replaced},
                                  {"a number replaced by a small one", number_small},
                                  {"a number replaced by a wrong one", number_wrong},
+                                 {"the rounds replaced by some at their limits", rounds_replaced},
                                  {"a leading zero", leading_zero},
                                  {"a digit more", digit_behind},
                                  {"a number dropped", number_dropped},

@@ -84,8 +84,9 @@ typedef struct {
 
 /* ---- a crash, or a call that does not end */
 
-/* The proved code calls nothing of C's, so that printing is safe when it is what was interrupted. */
-static void on_signal(int signal) {
+/* The proved code calls nothing of C's, so that printing is safe when it is what was interrupted. The emulator on Arm begins a handler with
+ * a stack that is not aligned as printing needs it, so that it is aligned here. */
+__attribute__((force_align_arg_pointer)) static void on_signal(int signal) {
   program_stop();
   if (signal == SIGALRM)
     fail("file %llu: a program did not end in %d seconds, and may only have waited", (unsigned long long)told.number, LONGEST_WAIT);

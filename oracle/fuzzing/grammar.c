@@ -5,6 +5,9 @@
 /* "Decimals without leading zeros, below 2^64 (columns below 2^32); floats as 16 lower-case hex digits of their bits" */
 static const char largest64[] = "18446744073709551615", largest32[] = "4294967295", hex_digits[] = "0123456789abcdef";
 
+/* Request W1: "`seedrun` takes at most 400 rounds from now", above that 17 at line 2 */
+static const char most_rounds[] = "400";
+
 enum { LINES = 7, HEX_LENGTH = 16 };
 
 typedef struct {
@@ -21,7 +24,7 @@ typedef struct {
 } line_rule;
 
 static const line_rule rules[LINES] = {
-    {"d=", largest64, 0, 1},           {"rounds=", largest64, 0, 1},           {"degree=", largest64, 0, 1},
+    {"d=", largest64, 0, 1},           {"rounds=", most_rounds, 0, 1},         {"degree=", largest64, 0, 1},
     {"seed_std=", NULL, 0, 1},         {"starts=", largest64, 1, MOST_STARTS}, {"columns=", largest32, 1, MOST_ENTRIES},
     {"values=", NULL, 1, MOST_ENTRIES}};
 

@@ -1,6 +1,6 @@
-/* grammar.h: document 01's grammar of run files, read a second time. It shares no code and no way of working with crates/reading: it cuts
- * the bytes into lines first, a line at its commas, and compares numbers as strings of digits, so that an error would have to be made
- * twice. */
+/* grammar.h: document 01's grammar of run files, with request W1's limit of rounds, read a second time. It shares no code and no way of
+ * working with crates/reading: it cuts the bytes into lines first, a line at its commas, and compares numbers as strings of digits, so that
+ * an error would have to be made twice. */
 #ifndef GRAMMAR_H
 #define GRAMMAR_H
 

@@ -1,6 +1,7 @@
 #define _GNU_SOURCE /* pipe2 */
 #include "program.h"
 
+#include <errno.h>
 #include <fcntl.h>
 #include <signal.h>
 #include <spawn.h>
@@ -99,7 +100,8 @@ static int run(const char *path, int in, int out, int error) {
   posix_spawn_file_actions_adddup2(&actions, in, 0);
   posix_spawn_file_actions_adddup2(&actions, out, 1);
   posix_spawn_file_actions_adddup2(&actions, error, 2);
-  int failure = posix_spawn(&pid, path, &actions, NULL, words, environ);
+  /* Under the emulator on Arm a program that cannot be begun looks like one that ended, so that it is asked for first. */
+  int failure = access(path, X_OK) ? errno : posix_spawn(&pid, path, &actions, NULL, words, environ);
   posix_spawn_file_actions_destroy(&actions);
   if (failure) fail("%s cannot be run: %s", path, strerror(failure));
   running = pid;

@@ -5,7 +5,7 @@
 #include <stddef.h>
 #include <stdint.h>
 
-enum { MOST_BYTES = 32768, MOST_STARTS = 65, MOST_ENTRIES = 1024, LEAST_ROOM = 8192 };
+enum { MOST_BYTES = 32768, MOST_ROUNDS = 400, MOST_STARTS = 65, MOST_ENTRIES = 1024, LEAST_ROOM = 8192 };
 
 /* crates/reading: RunFile. A bool is one byte, and read as a number here, so that one that is neither 0 nor 1 is seen. */
 typedef struct {

@@ -95,8 +95,10 @@ void tally_print(void) {
   print_damages();
   print_faults();
   print_numbers("Through text_answer:", told.answers);
-  printf("  rows compared %llu; accepted, and left out as drawn %llu, as too long a run %llu; with too little room %llu\n", of(told.rows),
-         of(told.not_drawn), of(told.too_dear), of(told.short_rooms));
+  printf(
+      "  rows compared %llu; runs of as many rounds as are taken %llu; accepted, and left out as drawn %llu, as too long a run %llu; with "
+      "too little room %llu\n",
+      of(told.rows), of(told.longest_runs), of(told.not_drawn), of(told.too_dear), of(told.short_rooms));
   print_numbers("Through seedrun:", told.programs);
   printf("  given whole %llu, in pieces %llu; also through the script %llu\n", of(told.program_ways[WHOLE]), of(told.program_ways[PIECES]),
          of(told.scripts));

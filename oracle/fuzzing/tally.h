@@ -17,7 +17,7 @@ typedef struct {
   uint64_t files, most_bytes;
   uint64_t right_by_damage[MOST_DAMAGES], wrong_by_damage[MOST_DAMAGES];
   uint64_t right, by_fault[FAULTS];
-  uint64_t answers[NUMBERS], rows, not_drawn, too_dear, short_rooms;
+  uint64_t answers[NUMBERS], rows, longest_runs, not_drawn, too_dear, short_rooms;
   uint64_t programs[NUMBERS], program_ways[WAYS], scripts;
   uint64_t differences;
 } tally;

@@ -1,11 +1,12 @@
 """What several tests need: graphs, bits, a progress that watches."""
 import pathlib
 import unittest
+from typing import NamedTuple
 
 import numpy as np
 from scipy import sparse
 
-from threshcinch import Refusal, _refusal, spectral_embedding
+from threshcinch import Embedding, Refusal, _refusal, spectral_embedding
 
 HERE = pathlib.Path(__file__).resolve().parent
 PACKAGE = HERE.parent
@@ -26,6 +27,35 @@ def bits(seed):
     found = np.ascontiguousarray(seed).view(np.uint64).copy()
     found[np.isnan(seed)] = NAN
     return found
+
+
+class OracleRun(NamedTuple):
+    """A stored run: its name, what the oracle says of it, spectral_embedding's words, and the bits of the seed that the Rust gave."""
+
+    label: str
+    said: dict
+    graph: sparse.csr_matrix
+    words: dict
+    seed: np.ndarray
+
+
+def _floats(text):
+    return np.array([int(word, 16) for word in text.split(",") if word], np.uint64).view(np.float64)
+
+
+def _wholes(text):
+    return [int(word) for word in text.split(",") if word]
+
+
+def oracle_runs():
+    for block in (VECTORS / "runs.txt").read_text().strip().split("\n\n"):
+        head, *lines = block.split("\n")
+        said = dict(word.split("=") for word in head.split()[2:])
+        asked = dict(line.split("=") for line in lines if not line.startswith("row="))
+        rows = [[int(word, 16) for word in line[4:].split(",")] for line in lines if line.startswith("row=")]
+        graph = csr(_wholes(asked["starts"]), _wholes(asked["columns"]), _floats(asked["values"]))
+        words = {"dims": int(asked["d"]), "rounds": int(asked["rounds"]), "degree": int(asked["degree"]), "seed_std": _floats(asked["seed_std"])[0]}
+        yield OracleRun(head.split()[1], said, graph, words, np.array(rows, np.uint64))
 
 
 def random_graph(rows, neighbours, number):
@@ -65,6 +95,11 @@ def digest(seed):
     return f"{found:016x}"
 
 
+def ended(run):
+    """What spectral_embedding would answer for a run that has ended."""
+    return Embedding(run.seed, run.counts, run.ritz_record)
+
+
 class Watch:
     """A progress that keeps what it was told."""
 
@@ -88,5 +123,7 @@ class Case(unittest.TestCase):
             self.assertEqual(caught.exception.words, _refusal.WORDS[number])
 
     def same(self, one, other):
-        np.testing.assert_array_equal(bits(one[0]), bits(other[0]))
-        self.assertEqual(one[1], other[1])
+        """Two Embeddings: every bit of seed and Ritz record, and the counts."""
+        np.testing.assert_array_equal(bits(one.seed), bits(other.seed))
+        np.testing.assert_array_equal(bits(one.ritz_record), bits(other.ritz_record))
+        self.assertEqual(one.counts, other.counts)

@@ -18,7 +18,7 @@ from scipy import sparse
 import threshcinch
 from threshcinch import Counts, Refusal, _graph, _library, _refusal, spectral_embedding
 
-from .common import PACKAGE, ROOT, VECTORS, Case, Stop, Watch, bits, csr, digest, random_graph, ring, splitmix
+from .common import PACKAGE, ROOT, VECTORS, Case, Stop, Watch, bits, csr, digest, oracle_runs, random_graph, ring, splitmix
 
 
 class Document01(Case):
@@ -44,35 +44,22 @@ class Document01(Case):
 class Oracle(Case):
     """The seeds that the Rust gave, wherever port and Rust must agree."""
 
-    def cases(self):
-        for block in (VECTORS / "runs.txt").read_text().strip().split("\n\n"):
-            head, *lines = block.split("\n")
-            said = dict(word.split("=") for word in head.split()[2:])
-            asked = dict(line.split("=") for line in lines if not line.startswith("row="))
-            rows = [line[4:].split(",") for line in lines if line.startswith("row=")]
-            yield head.split()[1], said, asked, rows
-
-    def replay(self, said, asked, rows):
-        floats = lambda text: np.array([int(word, 16) for word in text.split(",") if word], np.uint64).view(np.float64)
-        wholes = lambda text: [int(word) for word in text.split(",") if word]
-        graph = csr(wholes(asked["starts"]), wholes(asked["columns"]), floats(asked["values"]))
-        words = {name: int(asked[name]) for name in ("rounds", "degree")}
-        seed, counts = spectral_embedding(graph, int(asked["d"]), seed_std=floats(asked["seed_std"])[0], **words)
-        expected = np.array([[int(word, 16) for word in row] for row in rows], np.uint64)
-        found = bits(seed)
-        if said["empty"] == "1":  # zeros of either sign match
+    def replay(self, case):
+        seed, counts = spectral_embedding(case.graph, **case.words)
+        found, expected = bits(seed), case.seed
+        if case.said["empty"] == "1":  # zeros of either sign match
             found[found == 2**63] = 0
             expected[expected == 2**63] = 0
         np.testing.assert_array_equal(found, expected)
-        self.assertEqual(counts, Counts(*(int(said[name]) for name in Counts._fields)))
+        self.assertEqual(counts, Counts(*(int(case.said[name]) for name in Counts._fields)))
 
     def test_runs(self):
         agreed = 0
-        for label, said, asked, rows in self.cases():
+        for case in oracle_runs():
             # twice32 names columns twice, in rows short enough that the Rust's sort kept the input order
-            if label == "twice32" or (said["twice"], said["nan"], said["falls"]) == ("0", "0", "1"):
-                with self.subTest(case=label):
-                    self.replay(said, asked, rows)
+            if case.label == "twice32" or (case.said["twice"], case.said["nan"], case.said["falls"]) == ("0", "0", "1"):
+                with self.subTest(case=case.label):
+                    self.replay(case)
                 agreed += 1
         self.assertEqual(agreed, 225)
 
@@ -386,7 +373,7 @@ class Environments(Case):
     def bare_call(self):
         """The library's own function with nothing around it: its arguments, made in the default environment."""
         params = _graph.params_of(self.words["rounds"], self.words["degree"], None)
-        sizes = _library.call("threshcinch_lent_sizes", 1, self.graph.shape[0], self.graph.nnz)
+        sizes = _library.call("threshcinch_lent_sizes", 1, params.rounds, self.graph.shape[0], self.graph.nnz)
         memory = [np.zeros(length, kind) for length, kind in zip(sizes.lengths, _library.MEMORY_KINDS)]
         lists = _graph.lists_of(*_graph.stored(self.graph)) + memory
         return lists, [1, params] + _library.words_of(lists)
@@ -398,7 +385,7 @@ class Environments(Case):
 
         def work():
             embedded = _library.library.threshcinch_spectral_embedding(*words)
-            return embedded.verdict.number, lists[-1].copy()
+            return embedded.verdict.number, lists[3 + _library.OUTPUT].copy()
 
         for name, (number, seed) in self.in_each(work):
             self.assertEqual((number, (bits(seed) != expected).any()), (0, name != "nearest"), name)
@@ -530,9 +517,7 @@ class Module(Case):
     def test_version_is_the_others(self):
         cargo = (ROOT / "bindings" / "rust" / "Cargo.toml").read_text()
         self.assertIn(f'version = "{threshcinch.__version__}"', cargo)
-        found = re.search(r'#define THRESHCINCH_VERSION "([^"]*)"', self.header())
-        if found:  # the header has had none so far
-            self.assertEqual(found.group(1), threshcinch.__version__)
+        self.assertIn(f'#define THRESHCINCH_VERSION "{threshcinch.__version__}"\n', self.header())
 
     def fails(self, code, **words):
         words = {**os.environ, "PYTHONPATH": str(PACKAGE), **words}
@@ -555,6 +540,17 @@ class Module(Case):
         with tempfile.TemporaryDirectory() as folder:
             os.symlink(self.libc(), os.path.join(folder, "libthreshcinch.so"))
             self.assertIn("threshcinch_params_new", self.fails("import threshcinch", THRESHCINCH_LIB=folder))
+
+    def test_a_library_of_another_version(self):
+        """It has every function's name, and other records: the version alone tells."""
+        data = pathlib.Path(_library.library._name).read_bytes()
+        ours = threshcinch.__version__.encode() + b"\0"
+        self.assertTrue(threshcinch.__version__.startswith(_library.SERIES))
+        self.assertEqual(data.count(ours), 1)
+        with tempfile.TemporaryDirectory() as folder:
+            pathlib.Path(folder, "libthreshcinch.so").write_bytes(data.replace(ours, b"0.1.0\0"))
+            last = self.fails("import threshcinch", THRESHCINCH_LIB=folder)
+        self.assertIn("is version 0.1.0, and this package needs 0.2.x", last)
 
     def libc(self):
         """The C library that this process has: a library, but not ours."""

@@ -4,6 +4,7 @@ import io
 import os
 import pathlib
 import pickle
+import shutil
 import signal
 import subprocess
 import sys
@@ -16,11 +17,11 @@ import numpy as np
 from scipy import sparse
 
 import threshcinch
-from threshcinch import _command, graph_digest, seed_digest, spectral_embedding
+from threshcinch import Run, _command, graph_digest, seed_digest, spectral_embedding
 from threshcinch._bar import bar
 from threshcinch._look import warnings_about
 
-from .common import PACKAGE, bits, csr, random_graph
+from .common import HERE, PACKAGE, bits, csr, random_graph
 
 
 class Files(unittest.TestCase):
@@ -82,6 +83,16 @@ class Seeds(Files):
         self.assertEqual(status, 0)
         self.assertIn("3 numbers a row, 2 rounds of degree 7, seed_std 0.5\n", out)
         np.testing.assert_array_equal(bits(np.load(self.output)), bits(seed))
+
+    def test_record(self):
+        """The Ritz record in a file of its own; what is printed is the same with it and without."""
+        words = ("--dims", 3, "--rounds", 4)
+        printed = self.seed(self.graph, *words)
+        self.assertEqual(self.seed(self.graph, *words, "--record", self.path("record.npy")), printed)
+        record = np.load(self.path("record.npy"))
+        self.assertEqual(record.shape, (4, 12))
+        np.testing.assert_array_equal(bits(record), bits(spectral_embedding(self.graph, 3, 4).ritz_record))
+        self.assertEqual(sorted(os.listdir(self.folder)), ["graph.npz", "record.npy", "seed.npy"])
 
     def test_entries_are_taken_as_they_stand(self):
         graph = csr([0, 2, 4, 6], [2, 1, 2, 0, 1, 0], [1.0, 2.0, 3.0, 2.0, 3.0, 1.0])
@@ -203,7 +214,15 @@ class RefusedWords(Files):
         with mock.patch.object(_command, "_drive", side_effect=AssertionError("the work was begun")):
             self.refused("no folder", "seed", graph, "-o", self.path("nothing/seed.npy"))
             self.refused("no folder", "seed", graph, "-o", self.output, "--save", self.path("nothing/held"))
+            self.refused("no folder", "seed", graph, "-o", self.output, "--record", self.path("nothing/record.npy"))
             self.refused("is a folder", "seed", graph, "-o", str(self.folder))
+
+    def test_one_file_for_two_things(self):
+        """Otherwise the one that is written last would be all that is left, or be removed with the saved run."""
+        graph = self.stored(self.graph)
+        with mock.patch.object(_command, "_drive", side_effect=AssertionError("the work was begun")):
+            for words in (("--record", self.output), ("--record", self.output + ".held"), ("--save", self.path("./seed.npy"))):
+                self.refused("one file cannot be two of these", "seed", graph, "-o", self.output, *words)
 
     def test_words_not_understood(self):
         graph = self.stored(self.graph)
@@ -224,10 +243,10 @@ class RefusedWords(Files):
 class Stopped(Files):
     """Ctrl-C leaves a save, and --resume goes on from it to the same bits."""
 
-    def stopped(self, number, *words):
+    def stopped(self, number, *words, at=61):
         @contextlib.contextmanager
         def interrupting(stream):
-            yield lambda accepted, owed: os.kill(os.getpid(), number) if accepted == 61 else None
+            yield lambda accepted, owed: os.kill(os.getpid(), number) if accepted == at else None
 
         with mock.patch.object(_command, "bar", interrupting):
             return self.seed(self.graph, *words)
@@ -245,6 +264,21 @@ class Stopped(Files):
             self.assertEqual((status, err, out.split()[-2]), (0, "", seed_digest(seed)))
             self.assertFalse(os.path.exists(save))
             os.unlink(self.output)
+
+    def test_the_record_of_a_resumed_run(self):
+        """The save has the rounds that were closed before."""
+        record = self.path("record.npy")
+        self.assertEqual(self.stopped(signal.SIGINT, "--degree", 1, "--rounds", 4, "--record", record, at=400)[0], 130)
+        self.assertEqual(Run.load(self.graph, self.output + ".held").rounds_closed, 2)
+        self.assertFalse(os.path.exists(record))
+        self.assertEqual(self.seed(self.graph, "--resume", "--record", record)[0], 0)
+        np.testing.assert_array_equal(bits(np.load(record)), bits(spectral_embedding(self.graph, 2, 4, 1).ritz_record))
+
+    def test_a_save_of_version_1(self):
+        shutil.copy(HERE / "version1.held", self.output + ".held")
+        graph = self.stored(csr([0, 1, 2], [1, 0], [1.0, 2.0]))
+        self.refused("seed.npy.held: the saved run is of threshcinch 0.1, which kept no Ritz record", "seed", graph, "-o", self.output, "--resume")
+        self.assertTrue(os.path.exists(self.output + ".held"))
 
     def test_what_does_not_fit(self):
         self.refused("seed.npy.held", "seed", self.stored(self.graph), "-o", self.output, "--resume")

@@ -8,20 +8,18 @@ import numpy as np
 
 from threshcinch import LoadError, Progress, Refusal, Run, _save, spectral_embedding
 
-from .common import HERE, Case, Stop, Watch, bits, csr, random_graph
+from .common import HERE, Case, Stop, Watch, csr, ended, random_graph
 
 # Where the parts of a save begin; threshcinch/_save.py has the table.
+VERSION = 8
 GRAPH_SUM = 40
 LENGTHS = 48
-STATE = 128
+STATE = 136
 STAGE = STATE + 48
 LISTS = STATE + 5688
 
 
 class Held(Case):
-    def ended(self, run):
-        return run.seed, run.counts
-
     def test_threads(self):
         """5 chunks: fewer threads than chunks, and more."""
         graph = random_graph(16385, 2, 3)
@@ -73,7 +71,7 @@ class Held(Case):
             for number in reversed(run.chunks_left()):
                 run.chunk(number)
             run.close()
-        self.same(self.ended(run), spectral_embedding(graph, **words))
+        self.same(ended(run), spectral_embedding(graph, **words))
         self.assertEqual((run.chunks_left(), run.progress()[:1] + run.progress()[2:]), ([], ("ended", 0)))
         self.refusal(15, 0, run.close)
 
@@ -106,7 +104,7 @@ class Held(Case):
         del run._stand
         self.assertEqual(((run.progress(), run.chunks_left()), run.chunks_left()), (before, []))
         self.assertTrue(run.drive())
-        self.same(self.ended(run), spectral_embedding(graph, rounds=1, degree=1))
+        self.same(ended(run), spectral_embedding(graph, rounds=1, degree=1))
 
 
 class Stops(Case):
@@ -121,7 +119,7 @@ class Stops(Case):
             while not run.drive(threads, lambda accepted, owed: run.stop() if accepted % 50 == 5 else None):
                 stops += 1
             self.assertGreater(stops, 1 if threads == 1 else 0)
-            self.same((run.seed, run.counts), expected)
+            self.same(ended(run), expected)
 
     def test_stop_before_a_drive(self):
         run = Run.open(random_graph(30, 3, 1), rounds=1, degree=1)
@@ -143,7 +141,7 @@ class Stops(Case):
         with self.assertRaises(Stop):
             run.drive(3, progress)
         self.assertTrue(run.drive(3))
-        self.same((run.seed, run.counts), spectral_embedding(graph, **words))
+        self.same(ended(run), spectral_embedding(graph, **words))
 
 
 class Saves(Case):
@@ -156,7 +154,7 @@ class Saves(Case):
         self.graph = csr([0, 1, 2], [1, 0], [1.0, 2.0])
 
     def small(self):
-        """The run that tests/rust.held has: bindings/rust/tests/saves.rs, small()."""
+        """A run that stands a chunk into its ninth stage: bindings/rust/tests/saves.rs, small()."""
         run = Run.open(self.graph, dims=1, rounds=1, degree=2)
         for _ in range(8):
             run.chunk(0)
@@ -189,13 +187,21 @@ class Saves(Case):
         return self.summed(data[:at] + number.to_bytes(8, "little") + data[at + 8 :])
 
     def test_rusts_save(self):
-        """The Rust binding wrote rust.held: it goes on here, and Python's save of the same run has its every byte."""
+        """The Rust binding wrote rust.held, of a run over this graph (1, Params::new().rounds(2).degree(2)) that stands a chunk into the stage
+        behind its first round's products: it goes on here, and Python's save of the same run has its every byte."""
         stored = (HERE / "rust.held").read_bytes()
-        self.assertEqual(self.bytes(), stored)
+        words = {"dims": 1, "rounds": 2, "degree": 2}
+        run = Run.open(self.graph, **words)
+        while not run.rounds_closed:
+            run.chunk(0)
+            run.close()
+        run.chunk(0)
+        run.save(self.path)
+        self.assertEqual(self.path.read_bytes(), stored)
         run = Run.load(self.graph, HERE / "rust.held")
-        self.assertEqual(run.chunks_left(), [])
+        self.assertEqual((run.chunks_left(), run.rounds_closed), ([], 1))
         run.drive()
-        self.same((run.seed, run.counts), spectral_embedding(self.graph, dims=1, rounds=1, degree=2))
+        self.same(ended(run), spectral_embedding(self.graph, **words))
 
     def test_check_sum(self):
         """Beside the plain loop, around the blocks that it is computed in."""
@@ -222,13 +228,13 @@ class Saves(Case):
             run.chunk(0)
             run.close()
         self.assertEqual(len(saved), 19)
-        self.same((run.seed, run.counts), spectral_embedding(graph, **words))
+        self.same(ended(run), spectral_embedding(graph, **words))
         run.save(self.path)
-        self.same((Run.load(graph, self.path).seed, run.counts), (run.seed, run.counts))
+        self.same(ended(Run.load(graph, self.path)), ended(run))
 
     def test_cut_and_lengthened(self):
         data = self.bytes()
-        for length in (0, 1, 8, 15, 16, 100, 127, 128, LISTS, len(data) - 1):
+        for length in (0, 1, 8, 15, 16, 100, STATE - 1, STATE, LISTS, len(data) - 81, len(data) - 1):
             self.assertEqual(self.reason(data[:length]), "length", length)
         self.assertEqual(self.reason(data + b"\0"), "length")
 
@@ -237,7 +243,19 @@ class Saves(Case):
             self.assertEqual(self.reason(data), "not a save")
 
     def test_version(self):
-        self.assertEqual(self.reason(self.forged(self.bytes(), 8, 2)), "version")
+        for other in (0, 3, 2**64 - 1):
+            self.assertEqual(self.reason(self.forged(self.bytes(), VERSION, other)), "version")
+
+    def test_a_save_of_version_1(self):
+        """The Rust binding of 0.1.0 wrote version1.held, of the same run: it lacks the Ritz record's length and its ten numbers, and nothing
+        else is other than today. It is refused, and the words say why."""
+        stored = (HERE / "version1.held").read_bytes()
+        data = self.bytes()
+        head = data[:VERSION] + (1).to_bytes(8, "little") + data[VERSION + 8 : STATE - 8]
+        self.assertEqual(self.summed(head + data[STATE : -8 - 8 * 10] + bytes(8)), stored)
+        self.assertEqual(self.reason(stored), "no Ritz record")
+        with self.assertRaisesRegex(LoadError, "threshcinch 0.1, which kept no Ritz record: go on with it there, or begin it anew"):
+            self.load(stored)
 
     def test_changed_bytes(self):
         data = self.bytes()
@@ -247,10 +265,16 @@ class Saves(Case):
             self.assertEqual(self.reason(bytes(changed)), "check sum", place)
 
     def test_lists_of_other_lengths(self):
-        """The inverse has one element less and the output one more: as many bytes in all."""
+        """One list has one element less and another one more: as many bytes in all."""
         data = self.bytes()
-        data = self.forged(self.forged(data, LENGTHS, 1), LENGTHS + 72, 3)
-        self.assertEqual(self.reason(data), "lists")
+        lengths = [int.from_bytes(data[at : at + 8], "little") for at in range(LENGTHS, STATE, 8)]
+        for less, more in ((0, 9), (10, 9), (9, 10)):
+            forged = self.forged(data, LENGTHS + 8 * less, lengths[less] - 1)
+            self.assertEqual(self.reason(self.forged(forged, LENGTHS + 8 * more, lengths[more] + 1)), "lists")
+
+    def test_rounds_that_the_record_has_not(self):
+        """The state's rounds decide how long the Ritz record is."""
+        self.assertEqual(self.reason(self.forged(self.bytes(), STATE + 24, 2)), "lists")
 
     def test_other_graphs(self):
         data = self.bytes()
@@ -262,7 +286,7 @@ class Saves(Case):
 
     def test_forged_states(self):
         data = self.bytes()
-        for at, number, refusal in ((STAGE, 21, 16), (STAGE, 0, 15), (STATE, 8, 1)):
+        for at, number, refusal in ((STAGE, 21, 16), (STAGE, 0, 15), (STATE, 8, 1), (STATE + 24, 0, 8)):
             with self.assertRaises(LoadError) as caught:
                 self.load(self.forged(data, at, number))
             self.assertEqual((caught.exception.reason, caught.exception.__cause__.number), ("refused", refusal))
@@ -296,4 +320,4 @@ class Saves(Case):
         Run.open(graph, dims=1, rounds=1, degree=1).save(self.path)
         run = Run.load(graph, self.path)
         run.drive()
-        np.testing.assert_array_equal(bits(run.seed), bits(spectral_embedding(graph, dims=1, rounds=1, degree=1)[0]))
+        self.same(ended(run), spectral_embedding(graph, dims=1, rounds=1, degree=1))

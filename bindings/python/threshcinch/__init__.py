@@ -10,7 +10,7 @@ Everything here either turns SciPy's arrays into the library's lists or turns it
 here, so it has the library's bits: the same on every machine, for the same entries in the same order. That holds in every floating-point
 environment too: conversions to float64 and the library's calls are made in the default one, and the thread's own is put back after each.
 
-    spectral_embedding      a graph's seed, and Counts of what the run did
+    spectral_embedding      a graph's seed, and Counts of what the run did: an Embedding, which also has each round's Ritz values
     Run                     the same work held: chunk by chunk, with threads, stopped, saved to a file and gone on with
     Refusal, LoadError      what the library, or a saved run, is refused by
     graph_digest, seed_digest
@@ -19,7 +19,7 @@ environment too: conversions to float64 and the library's calls are made in the 
 """
 from ._digest import graph_digest, seed_digest
 from ._refusal import LoadError, Refusal
-from ._run import Counts, Progress, Run, spectral_embedding
+from ._run import Counts, Embedding, Progress, Run, spectral_embedding
 
-__version__ = "0.1.0"
-__all__ = ["Counts", "LoadError", "Progress", "Refusal", "Run", "graph_digest", "seed_digest", "spectral_embedding"]
+__version__ = "0.2.0"
+__all__ = ["Counts", "Embedding", "LoadError", "Progress", "Refusal", "Run", "graph_digest", "seed_digest", "spectral_embedding"]

@@ -34,6 +34,9 @@ GRAPH is what scipy.sparse.save_npz writes. CSR is taken as it stands, entries i
 .tocsr(), with a word on standard error. Also on standard error, and never in the numbers: columns twice in a row, a graph that is not
 symmetric, several components, zeroed columns.
 
+--record writes the Ritz record, which shows how the spectrum settled, as NumPy's .npy: an array of float64 with a row for each round, the bound
+that the round's filter used and then its D + 8 Ritz values, falling, NaN last.
+
 Ctrl-C leaves the run in a file, SEED.npy.held or what --save names. The same command with --resume goes on from there to the same bits, and
 removes the file once the seed is written."""
 
@@ -71,6 +74,7 @@ def _add_seed(commands) -> None:
     parser.add_argument("--degree", type=int, metavar="N", help="the filter's degree, 1 to 1,000 (20)")
     parser.add_argument("--seed-std", type=float, metavar="X", help="standard deviation of each of the seed's columns (1e-4)")
     parser.add_argument("--threads", type=_threads, default=1, metavar="N", help="threads that do the work (1); the bits are the same")
+    parser.add_argument("--record", metavar="FILE.npy", help="where each round's bound and Ritz values go (nowhere)")
     parser.add_argument("--save", metavar="FILE", help="where Ctrl-C leaves the run (SEED.npy.held)")
     parser.add_argument("--resume", action="store_true", help="go on from that file")
 
@@ -106,6 +110,19 @@ def _check_place(path: str) -> None:
         raise Trouble(f"{path}: {folder} is no folder that can be written to")
     if os.path.isdir(path):
         raise Trouble(f"{path}: is a folder")
+
+
+def _check_places(*paths: str) -> None:
+    """The same of each, and that no two are one file."""
+    for path in paths:
+        _check_place(path)
+    if len({os.path.realpath(path) for path in paths}) < len(paths):
+        raise Trouble(f"one file cannot be two of these: {', '.join(paths)}")
+
+
+def _write_array(path: str, array: np.ndarray) -> None:
+    with written_whole(path) as file:
+        np.save(file, array)
 
 
 def _begin(graph, asked, save: str) -> Run:
@@ -169,8 +186,7 @@ def _print_run(run: Run) -> None:
 
 def seed(asked) -> int:
     save = asked.save or asked.output + ".held"
-    _check_place(asked.output)
-    _check_place(save)
+    _check_places(asked.output, save, *([asked.record] if asked.record else []))
     graph, word = read_graph(asked.graph)
     if word:
         say(word)
@@ -180,8 +196,9 @@ def seed(asked) -> int:
     stopped = _drive(run, asked.threads, save)
     if stopped is not None:
         return 128 + stopped
-    with written_whole(asked.output) as file:
-        np.save(file, run.seed)
+    if asked.record:
+        _write_array(asked.record, run.ritz_record)
+    _write_array(asked.output, run.seed)
     if asked.resume:
         os.unlink(save)
     if run.counts.zeroed:

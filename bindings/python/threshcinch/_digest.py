@@ -47,10 +47,10 @@ def graph_digest(graph) -> str:
     4 bytes each; the values' bits, 8 bytes each, minus zero kept. Little-endian, in the order in which the entries stand.
     Raises Refusal for a graph that the library refuses.
     """
-    dims = 1
-    graph_lists, memory = prepare(graph, dims)
+    dims, params = 1, params_of(None, None, None)
+    graph_lists, memory = prepare(graph, dims, params.rounds)
     # Opening tests the graph and touches no lent list but the marks.
-    accept(call("threshcinch_open", dims, params_of(None, None, None), *words_of(graph_lists + memory)).verdict)
+    accept(call("threshcinch_open", dims, params, *words_of(graph_lists + memory)).verdict)
     return lists_digest(graph_lists)
 
 

@@ -7,7 +7,7 @@ import numpy as np
 from scipy import sparse
 
 from ._library import MEMORY_KINDS, Params, call, default_arithmetic
-from ._refusal import accept
+from ._refusal import ROUNDS, Refusal, accept
 
 
 def natural(number) -> int:
@@ -68,17 +68,23 @@ def lists_of(starts, columns, values) -> list[np.ndarray]:
         return [starts, columns, np.require(values, np.float64, ["C", "A"])]
 
 
-def lengths_of(dims: int, rows: int, entries: int) -> list[int]:
-    """How long each lent list must be, or a Refusal (1, 2, 3)."""
-    sizes = call("threshcinch_lent_sizes", dims, rows, entries)
+def lengths_of(dims: int, rounds: int, rows: int, entries: int) -> list[int]:
+    """How long each lent list must be, or a Refusal (1, 2, 3, 8)."""
+    sizes = call("threshcinch_lent_sizes", dims, rounds, rows, entries)
     accept(sizes.verdict)
     return list(sizes.lengths)
 
 
-def prepare(graph, dims: int) -> tuple[list[np.ndarray], list[np.ndarray]]:
+def prepare(graph, dims: int, rounds: int) -> tuple[list[np.ndarray], list[np.ndarray]]:
     """The graph's lists, and memory for a run over it. The sizes are tested before anything of the graph's length is made."""
     starts, columns, values = stored(graph)
-    lengths = lengths_of(dims, starts.size - 1, columns.size)
+    try:
+        lengths = lengths_of(dims, rounds, starts.size - 1, columns.size)
+    except Refusal as refusal:
+        if refusal.number != ROUNDS:
+            raise
+        # The call refuses these rounds, but only after it has tested the graph: until then it gets the memory of one round.
+        lengths = lengths_of(dims, 1, starts.size - 1, columns.size)
     return lists_of(starts, columns, values), memory_of(lengths)
 
 

@@ -22,7 +22,7 @@ class Params(ctypes.Structure):
 
 
 class Sizes(ctypes.Structure):
-    _fields_ = [("verdict", Verdict), ("lengths", c_size_t * 10)]
+    _fields_ = [("verdict", Verdict), ("lengths", c_size_t * 11)]
 
 
 class Asked(ctypes.Structure):
@@ -55,21 +55,23 @@ class Embedded(ctypes.Structure):
 
 
 # Records cross by value, so a size that is not the header's would pass numbers at wrong places.
-SIZES = {Verdict: 16, Params: 24, Sizes: 96, Asked: 48, Progress: 88, Counts: 32, State: 5688, Answer: 5704, Embedded: 48}
+SIZES = {Verdict: 16, Params: 24, Sizes: 104, Asked: 48, Progress: 88, Counts: 32, State: 5688, Answer: 5704, Embedded: 48}
 for _record, _size in SIZES.items():
     assert ctypes.sizeof(_record) == _size, f"{_record.__name__} has {ctypes.sizeof(_record)} bytes, not the header's {_size}"
 
 # ---- the library
 
-# the lent lists: inverse, v0, edge columns, edge weights, three blocks, partials, marks, output
-MEMORY_KINDS = (np.float64, np.float64, np.uint32, np.float64, np.float64, np.float64, np.float64, np.float64, np.uint8, np.float64)
+# the lent lists: inverse, v0, edge columns, edge weights, three blocks, partials, marks, output, Ritz record
+MEMORY_KINDS = (np.float64,) * 2 + (np.uint32,) + (np.float64,) * 5 + (np.uint8,) + (np.float64,) * 2
 MARKS = 8
+OUTPUT = 9
+RECORD = 10
 
 # three lists of the graph and the lent ones; each crosses as address and length
 _LISTS = [ctypes.c_void_p, c_size_t] * (3 + len(MEMORY_KINDS))
 _FUNCTIONS = {
     "threshcinch_params_new": (Params, []),
-    "threshcinch_lent_sizes": (Sizes, [c_uint64, c_size_t, c_size_t]),
+    "threshcinch_lent_sizes": (Sizes, [c_uint64, c_uint64, c_size_t, c_size_t]),
     "threshcinch_calls_accepted": (c_size_t, [State]),
     "threshcinch_calls_owed": (c_size_t, [State]),
     "threshcinch_spectral_embedding": (Embedded, [c_uint64, Params] + _LISTS),
@@ -78,6 +80,8 @@ _FUNCTIONS = {
     "threshcinch_close": (Answer, [State] + _LISTS),
 }
 _NAME = "libthreshcinch.so"
+# How the version of a library begins that has these records and functions in this form. Its soname ends so too.
+SERIES = "0.2."
 
 
 def _folder() -> str:
@@ -115,9 +119,20 @@ def _load(path: str, functions: dict) -> ctypes.CDLL:
     return library
 
 
+def _check_version(library: ctypes.CDLL) -> None:
+    """Another form of a call would pass numbers at wrong places, and no name of a function tells."""
+    try:
+        version = (ctypes.c_char_p.in_dll(library, "threshcinch_version").value or b"").decode()
+    except ValueError as fault:
+        raise ImportError(f"threshcinch: {fault}") from None
+    if not version.startswith(SERIES):
+        raise ImportError(f"threshcinch: {library._name} is version {version}, and this package needs {SERIES}x")
+
+
 if platform.machine() != "x86_64":
     raise ImportError(f"threshcinch: the library is for x86-64, and this machine is {platform.machine()}")
 library = _load(_path(), _FUNCTIONS)
+_check_version(library)
 
 # ---- the floating-point environment
 

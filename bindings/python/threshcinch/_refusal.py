@@ -23,6 +23,7 @@ WORDS = {
 }
 
 # The numbers that this package tells apart.
+ROUNDS = 8
 NO_CHUNK = 12
 NO_RUN = 15
 
@@ -44,6 +45,7 @@ class Refusal(ValueError):
 LOAD_WORDS = {
     "not a save": "the file is not a saved run",
     "version": "the saved run has a version that this package does not read",
+    "no Ritz record": "the saved run is of threshcinch 0.1, which kept no Ritz record: go on with it there, or begin it anew",
     "length": "the saved run has fewer or more bytes than it says",
     "check sum": "the saved run's check sum is wrong: it was changed",
     "other graph": "the saved run is over another graph",
@@ -53,8 +55,8 @@ LOAD_WORDS = {
 
 
 class LoadError(ValueError):
-    """A saved run does not fit. `reason` is one of 'not a save', 'version', 'length', 'check sum', 'other graph', 'lists' and 'refused';
-    with the last one `__cause__` is the library's Refusal."""
+    """A saved run does not fit. `reason` is one of 'not a save', 'version', 'no Ritz record', 'length', 'check sum', 'other graph', 'lists' and
+    'refused'; with the last one `__cause__` is the library's Refusal."""
 
     def __init__(self, reason: str) -> None:
         super().__init__(reason)

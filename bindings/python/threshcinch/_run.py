@@ -13,7 +13,7 @@ from scipy import sparse
 from . import _save
 from ._digest import lists_digest
 from ._graph import natural, params_of, prepare
-from ._library import MARKS, State, call, words_of
+from ._library import MARKS, OUTPUT, RECORD, State, call, words_of
 from ._refusal import NO_CHUNK, NO_RUN, LoadError, Refusal, accept
 
 # what a caller hears of a run: calls accepted so far, and calls owed
@@ -25,6 +25,7 @@ STAGES = (
     "no run,degrees,edges,v0,start block,filter pass,norm before,dots,subtract,dots again,subtract again,norm after,write,"
     "plain pass,products,rotate and unscale,sums,subtract the means,squares,scale,ended"
 ).split(",")
+PRODUCTS = STAGES.index("products")
 ENDED = len(STAGES) - 1
 
 
@@ -45,6 +46,64 @@ class Counts(NamedTuple):
     isolated: int
 
 
+class _Recorded:
+    """What has a Ritz record, and its two parts."""
+
+    @property
+    def ritz_record(self) -> np.ndarray:
+        raise NotImplementedError
+
+    @property
+    def filter_bounds(self) -> np.ndarray:
+        """The bound that each round's filter used: the first column of `ritz_record`, as a view."""
+        return self.ritz_record[:, 0]
+
+    @property
+    def ritz_values(self) -> np.ndarray:
+        """Each round's dims + 8 Ritz values, falling, NaN last: the other columns of `ritz_record`, as a view."""
+        return self.ritz_record[:, 1:]
+
+
+class Embedding(_Recorded, tuple[np.ndarray, Counts]):
+    """What `spectral_embedding` answers: the pair of seed and Counts, with the Ritz record beside it.
+
+        seed, counts = spectral_embedding(graph)           # it is a tuple of two
+        answer = spectral_embedding(graph)
+        answer.ritz_values[-1] - answer.ritz_values[-2]    # how far each Ritz value moved in the last round
+
+    seed            n x dims, float64
+    counts          Counts
+    ritz_record     rounds x (dims + 9), float64: how the spectrum settled. A row for each round: the bound that the round's filter used,
+                    then all dims + 8 Ritz values of the round, falling, NaN last. The first dims of them are those of the seed's columns.
+    filter_bounds   the first column of it, as a view: 0.75, and then the Ritz value at place dims + 1 (from 0) of the round before, raised
+                    to 0.1 and lowered to 0.9995; NaN becomes 0.1
+    ritz_values     the other columns, as a view
+    """
+
+    _record: np.ndarray
+
+    def __new__(cls, seed: np.ndarray, counts: Counts, ritz_record: np.ndarray) -> Embedding:
+        pair = tuple.__new__(cls, (seed, counts))
+        pair._record = ritz_record
+        return pair
+
+    def __getnewargs__(self) -> tuple[np.ndarray, Counts, np.ndarray]:
+        """So that copies and pickles have the record."""
+        return self.seed, self.counts, self.ritz_record
+
+    @property
+    def seed(self) -> np.ndarray:
+        return self[0]
+
+    @property
+    def counts(self) -> Counts:
+        return self[1]
+
+    @property
+    def ritz_record(self) -> np.ndarray:
+        return self._record
+
+
 class Progress(NamedTuple):
     """Where a run is.
 
@@ -58,15 +117,15 @@ class Progress(NamedTuple):
     owed: int
 
 
-class Run:
-    """A held run: the same work, seed and counts as the one call, chunk by chunk, stopped and gone on with anywhere.
+class Run(_Recorded):
+    """A held run: the same work, seed, counts and Ritz record as the one call, chunk by chunk, stopped and gone on with anywhere.
 
         run = threshcinch.Run.open(graph, dims=2)
         while run.is_open:
             for number in run.chunks_left():      # in any order
                 run.chunk(number)
             run.close()
-        seed, counts = run.seed, run.counts
+        seed, counts, record = run.seed, run.counts, run.ritz_record
 
     `drive` does that loop, with several threads if asked. `chunk` may be called from several threads at once with different numbers;
     nothing else of a run may be called beside a chunk, except `stop`. The graph must not be changed as long as the run is used.
@@ -86,7 +145,7 @@ class Run:
     def open(cls, graph: Graph, dims: int = 2, rounds: Optional[int] = None, degree: Optional[int] = None, seed_std: Optional[float] = None) -> Run:
         """Opens a run; spectral_embedding says what the words mean. Raises Refusal where the library refuses the input (1 to 10)."""
         params = params_of(rounds, degree, seed_std)
-        graph_lists, memory = prepare(graph, natural(dims))
+        graph_lists, memory = prepare(graph, natural(dims), params.rounds)
         answer = call("threshcinch_open", natural(dims), params, *words_of(graph_lists + memory))
         accept(answer.verdict)
         return cls(graph_lists, memory, answer.state)
@@ -99,8 +158,10 @@ class Run:
     def close(self) -> None:
         """Closes the stage. Refusals 14 (a chunk is not done), 15 (the run has ended) and 16."""
         state, memory, _ = self._at
-        # Closing writes the marks and nothing else. It gets a copy of them, so that the run stands where it stood until it has answered.
-        after = memory[:MARKS] + [memory[MARKS].copy()] + memory[MARKS + 1 :]
+        # Closing writes the marks and, after the products, the Ritz record. It gets copies of what it writes, so that the run stands where it
+        # stood until it has answered.
+        written = (MARKS, RECORD) if state.progress.stage == PRODUCTS else (MARKS,)
+        after = [array.copy() if number in written else array for number, array in enumerate(memory)]
         answer = call("threshcinch_close", state, *words_of(self._graph + after))
         accept(answer.verdict)
         self._stand(answer.state, after)
@@ -130,7 +191,20 @@ class Run:
         state, memory, _ = self._at
         if self.is_open:
             raise RuntimeError("the run has not ended, so there is no seed yet")
-        return memory[-1].reshape(state.asked.rows, state.asked.dims)
+        return memory[OUTPUT].reshape(state.asked.rows, state.asked.dims)
+
+    @property
+    def rounds_closed(self) -> int:
+        """How many rounds have their Ritz values: all of them when the run has ended."""
+        state = self._at[0]
+        return state.asked.rounds if state.progress.stage > PRODUCTS else state.progress.round
+
+    @property
+    def ritz_record(self) -> np.ndarray:
+        """Bound and Ritz values as Embedding has them, a row for each of the rounds that have closed so far. A copy: it stays as it is when
+        the run goes on."""
+        state, memory, _ = self._at
+        return memory[RECORD].reshape(state.asked.rounds, -1)[: self.rounds_closed].copy()
 
     @property
     def asked(self) -> dict[str, Union[int, float]]:
@@ -257,12 +331,12 @@ class Run:
             raise LoadError("refused") from refusal
 
 
-def _one_call(graph: Graph, dims: int, params) -> tuple[np.ndarray, Counts]:
-    graph_lists, memory = prepare(graph, natural(dims))
+def _one_call(graph: Graph, dims: int, params) -> Embedding:
+    graph_lists, memory = prepare(graph, natural(dims), params.rounds)
     embedded = call("threshcinch_spectral_embedding", natural(dims), params, *words_of(graph_lists + memory))
     accept(embedded.verdict)
     counts = Counts(*(getattr(embedded.counts, name) for name in Counts._fields))
-    return memory[-1].reshape(-1, operator.index(dims)), counts
+    return Embedding(memory[OUTPUT].reshape(-1, operator.index(dims)), counts, memory[RECORD].reshape(params.rounds, -1))
 
 
 def spectral_embedding(
@@ -273,7 +347,7 @@ def spectral_embedding(
     seed_std: Optional[float] = None,
     progress: Optional[OnProgress] = None,
     threads: int = 1,
-) -> tuple[np.ndarray, Counts]:
+) -> Embedding:
     """The spectral seed of a neighbour graph: start positions for an embedding of its rows.
 
     graph     scipy.sparse csr_matrix or csr_array, square: row i holds the weights of i's neighbours. It should be symmetric; that is not
@@ -289,8 +363,9 @@ def spectral_embedding(
     threads   so many threads, the calling one among them, do the chunks of 4,096 rows: a graph of fewer rows has one chunk, and gains
               nothing. Without progress and with one thread the work is one call, which Python cannot interrupt.
 
-    Answers the seed, an ndarray of n x dims float64, and Counts. Both are the same with and without `progress` and for any number of
-    threads, bit for bit. Raises Refusal where the library refuses the input.
+    Answers an Embedding: the pair of the seed, an ndarray of n x dims float64, and Counts, as in `seed, counts = ...`. Its `ritz_record`
+    has each round's bound and Ritz values, which show how the spectrum settled. All are the same with and without `progress` and for any
+    number of threads, bit for bit. Raises Refusal where the library refuses the input.
 
     The order of entries matters to the last bits: a row's degree is summed in the order in which its entries stand, and a column that
     stands twice in a row counts as two entries. The entries are taken as they stand, neither sorted nor summed. Some of SciPy's own
@@ -301,4 +376,4 @@ def spectral_embedding(
         return _one_call(graph, dims, params_of(rounds, degree, seed_std))
     run = Run.open(graph, dims, rounds, degree, seed_std)
     run.drive(threads, progress)
-    return run.seed, run.counts
+    return Embedding(run.seed, run.counts, run.ritz_record)

@@ -3,13 +3,15 @@
 All numbers are little-endian, whole ones of 8 bytes, floats as their bits:
 
     8         the letters TCINCHRN
-    8         version, 1
+    8         version, 2
     3 x 8     lengths of the graph's starts, columns and values
     8         check sum of the graph's lists
-    10 x 8    lengths of the lent lists 0 to 9
+    11 x 8    lengths of the lent lists 0 to 10
     5,688     the state, field after field
-              the lent lists 0 to 9: 8 bytes an element, but 4 for the edge columns and 1 for the marks
+              the lent lists 0 to 10: 8 bytes an element, but 4 for the edge columns and 1 for the marks
     8         check sum of all bytes before it
+
+Version 1, of threshcinch 0.1, had no list 10, the Ritz record. It is not read, as the rounds that it has closed are not to be had from it.
 
 A check sum is FNV-1a of 64 bits. It keeps out accidents, not forgers: what a forger can reach is a run that meets refusal 16 or has another
 seed, since the library asks for nothing first.
@@ -28,9 +30,11 @@ from ._library import MEMORY_KINDS, State
 from ._refusal import LoadError, Refusal
 
 LETTERS = b"TCINCHRN"
-VERSION = 1
+VERSION = 2
+WITHOUT_RECORD = 1
 WORD = np.dtype("<u8")
-HEAD_BYTES = 8 * (1 + 1 + 3 + 1 + 10)
+LENGTHS_BYTES = 8 * len(MEMORY_KINDS)
+HEAD_BYTES = 8 * (1 + 1 + 3 + 1) + LENGTHS_BYTES
 STATE_BYTES = ctypes.sizeof(State)
 
 # ---- the check sum
@@ -143,17 +147,23 @@ def _check_bytes(data: np.ndarray) -> list[int]:
         raise LoadError("length")
     if data[:8].tobytes() != LETTERS:
         raise LoadError("not a save")
-    if int(data[8:16].view(WORD)[0]) != VERSION:
-        raise LoadError("version")
+    _check_version(int(data[8:16].view(WORD)[0]))
     if data.size < HEAD_BYTES:
         raise LoadError("length")
-    lengths = data[HEAD_BYTES - 80 : HEAD_BYTES].view(WORD).tolist()
+    lengths = data[HEAD_BYTES - LENGTHS_BYTES : HEAD_BYTES].view(WORD).tolist()
     lists = sum(length * np.dtype(kind).itemsize for length, kind in zip(lengths, MEMORY_KINDS))
     if data.size != HEAD_BYTES + STATE_BYTES + lists + 8:
         raise LoadError("length")
     if int(data[-8:].view(WORD)[0]) != check_sum(data[:-8]):
         raise LoadError("check sum")
     return lengths
+
+
+def _check_version(version: int) -> None:
+    if version == WITHOUT_RECORD:
+        raise LoadError("no Ritz record")
+    if version != VERSION:
+        raise LoadError("version")
 
 
 def _check_graph(data: np.ndarray, graph_lists) -> None:
@@ -169,7 +179,7 @@ def _check_lengths(state: State, graph_lists, lengths) -> None:
     """The state's sizes are the graph's, and the lists have the lengths that the library names for them."""
     asked = state.asked
     try:
-        needed = lengths_of(asked.dims, asked.rows, asked.entries)
+        needed = lengths_of(asked.dims, asked.rounds, asked.rows, asked.entries)
     except Refusal as refusal:
         raise LoadError("refused") from refusal
     sizes = [asked.rows + 1, asked.entries, asked.entries]

@@ -19,6 +19,7 @@ struct Trial {
     far: u32,
     salt: u64,
     dims: usize,
+    rounds: u64,
     degree: u64,
 }
 
@@ -31,6 +32,7 @@ impl Trial {
             far: 20 + number as u32 % 3_000,
             salt: number as u64,
             dims: 1 + number % 3,
+            rounds: 1 + number as u64 % 2,
             degree: 2 + number as u64 % 2,
         }
     }
@@ -61,7 +63,7 @@ fn drive<'g>(graph: &Graph<'g>, dims: usize, params: Params, threads: usize, sta
 }
 
 fn expect(graph: &Graph<'_>, dims: usize, params: Params) -> Result<Expected, Refusal> {
-    let mut memory = Memory::for_graph(graph, dims)?;
+    let mut memory = Memory::for_graph(graph, dims, params)?;
     let counts = spectral_embedding_in(graph, dims, params, &mut memory)?;
     let state = *drive(graph, dims, params, 1, &mut 0)?.state();
     Ok(Expected { memory, counts, state })
@@ -83,7 +85,7 @@ fn try_graph(number: usize, left: usize, tally: &mut Tally) -> Result<(), Refusa
     let trial = Trial::new(number);
     let ring = Ring::new(trial.rows, trial.far, trial.salt);
     let graph = ring.graph();
-    let params = Params::new().rounds(1)?.degree(trial.degree)?;
+    let params = Params::new().rounds(trial.rounds)?.degree(trial.degree)?;
     let expected = expect(&graph, trial.dims, params)?;
     for threads in THREADS.into_iter().take(left) {
         let run = drive(&graph, trial.dims, params, threads, &mut tally.stages)?;

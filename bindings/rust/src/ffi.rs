@@ -108,7 +108,7 @@ pub(crate) struct Set {
 #[repr(C)]
 pub(crate) struct Sizes {
     pub verdict: Verdict,
-    pub lengths: [usize; 10],
+    pub lengths: [usize; 11],
 }
 
 #[repr(C)]
@@ -129,7 +129,7 @@ const _: () = {
     assert!(size_of::<Verdict>() == 16 && offset_of!(Verdict, place) == 8);
     assert!(size_of::<RawParams>() == 24 && offset_of!(RawParams, degree) == 8 && offset_of!(RawParams, seed_std) == 16);
     assert!(size_of::<Set>() == 40 && offset_of!(Set, params) == 16);
-    assert!(size_of::<Sizes>() == 96 && offset_of!(Sizes, lengths) == 16);
+    assert!(size_of::<Sizes>() == 104 && offset_of!(Sizes, lengths) == 16);
     assert!(size_of::<Asked>() == 48 && offset_of!(Asked, seed_std) == 40);
     assert!(size_of::<StateProgress>() == 88 && offset_of!(StateProgress, bound) == 56 && offset_of!(StateProgress, norm) == 80);
     assert!(size_of::<Counts>() == 32 && offset_of!(Counts, isolated) == 24);
@@ -146,12 +146,12 @@ extern "C" {
     pub(crate) fn threshcinch_params_rounds(params: RawParams, rounds: u64) -> Set;
     pub(crate) fn threshcinch_params_degree(params: RawParams, degree: u64) -> Set;
     pub(crate) fn threshcinch_params_seed_std(params: RawParams, seed_std: f64) -> Set;
-    pub(crate) fn threshcinch_lent_sizes(d: u64, rows: usize, entries: usize) -> Sizes;
+    pub(crate) fn threshcinch_lent_sizes(d: u64, rounds: u64, rows: usize, entries: usize) -> Sizes;
     pub(crate) fn threshcinch_calls_accepted(state: State) -> usize;
     pub(crate) fn threshcinch_calls_owed(state: State) -> usize;
 }
 
-/// Declares calls that take, after their own arguments, the graph's three lists and the ten lent ones, each as address and length.
+/// Declares calls that take, after their own arguments, the graph's three lists and the eleven lent ones, each as address and length.
 /// A list that a call only reads is declared as one that it may write: to C the two are the same, and so is what lends them here.
 macro_rules! calls_on_lists {
     ($(fn $name:ident($($argument:ident: $kind:ty),*) -> $answer:ty;)*) => {
@@ -171,6 +171,7 @@ macro_rules! calls_on_lists {
                 partials: *mut f64, partials_length: usize,
                 marks: *mut u8, marks_length: usize,
                 output: *mut f64, output_length: usize,
+                ritz_record: *mut f64, ritz_record_length: usize,
             ) -> $answer;)*
         }
     };

@@ -13,6 +13,7 @@
 //! let seed = spectral_embedding(&graph, 2, Params::new())?;
 //! assert_eq!((seed.rows, seed.dims), (3, 2));
 //! println!("row 0 starts at {:?}", seed.row(0));
+//! println!("its first round had the Ritz values {:?}", seed.ritz_record.values(0));
 //! # Ok::<(), threshcinch::Refusal>(())
 //! ```
 //!
@@ -34,15 +35,19 @@ mod drive;
 mod ffi;
 mod memory;
 mod params;
+mod record;
 mod refusal;
 mod run;
 mod save;
+#[cfg(test)]
+mod tests;
 mod version;
 
 pub use drive::Driven;
 pub use ffi::{Asked, Counts, State, StateProgress};
 pub use memory::{Graph, Memory};
 pub use params::Params;
+pub use record::RitzRecord;
 pub use refusal::{Reason, Refusal};
 pub use run::{Progress, Run};
 pub use save::LoadError;
@@ -61,9 +66,18 @@ pub struct Seed {
     pub values: Vec<f64>,
     /// What the run has counted.
     pub counts: Counts,
+    /// How the spectrum settled, round by round.
+    pub ritz_record: RitzRecord,
 }
 
 impl Seed {
+    /// What a run of so many rounds has left in memory of exactly its lengths.
+    pub(crate) fn of(rows: usize, dims: usize, rounds: usize, memory: Memory, counts: Counts) -> Seed {
+        // Memory of those lengths holds every round.
+        let ritz_record = RitzRecord::new(dims, rounds, memory.ritz_record).unwrap_or_default();
+        Seed { rows, dims, values: memory.output, counts, ritz_record }
+    }
+
     /// Row i's numbers, or nothing where there is no such row.
     pub fn row(&self, i: usize) -> Option<&[f64]> {
         let first = i.checked_mul(self.dims)?;
@@ -73,12 +87,13 @@ impl Seed {
 
 /// Computes the seed of a graph in one call: refusals 1 to 7, and 11 where the machine has not the memory.
 pub fn spectral_embedding(graph: &Graph<'_>, dims: usize, params: Params) -> Result<Seed, Refusal> {
-    let mut memory = Memory::for_graph(graph, dims)?;
+    let mut memory = Memory::for_graph(graph, dims, params)?;
     let counts = spectral_embedding_in(graph, dims, params, &mut memory)?;
-    Ok(Seed { rows: graph.rows(), dims, values: memory.output, counts })
+    Ok(Seed::of(graph.rows(), dims, params.get_rounds() as usize, memory, counts))
 }
 
-/// Computes the seed in memory that the caller lends, for instance again and again in the same. The seed is in its `output`.
+/// Computes the seed in memory that the caller lends, for instance again and again in the same. The seed is in its `output`, the Ritz record
+/// in its `ritz_record`.
 ///
 /// Refusals 1 to 7, and 11 where a list is too short; a refused call changes nothing.
 pub fn spectral_embedding_in(graph: &Graph<'_>, dims: usize, params: Params, memory: &mut Memory) -> Result<Counts, Refusal> {
@@ -88,8 +103,8 @@ pub fn spectral_embedding_in(graph: &Graph<'_>, dims: usize, params: Params, mem
     Ok(answer.counts)
 }
 
-/// Computes the seed with so many threads, this one among them: the same seed and counts as with one. 0 is taken for 1, and there are never
-/// more threads than chunks of 4,096 rows. Refusals as for [`spectral_embedding`].
+/// Computes the seed with so many threads, this one among them: the same seed, counts and Ritz record as with one. 0 is taken for 1, and
+/// there are never more threads than chunks of 4,096 rows. Refusals as for [`spectral_embedding`].
 pub fn spectral_embedding_with_threads(graph: &Graph<'_>, dims: usize, params: Params, threads: usize) -> Result<Seed, Refusal> {
     if threads <= 1 {
         return spectral_embedding(graph, dims, params);

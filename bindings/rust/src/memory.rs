@@ -27,8 +27,8 @@ impl<'a> Graph<'a> {
     }
 }
 
-/// The ten lists that the library works in, in document 01's order. Longer ones than a graph needs are allowed and their rest stays
-/// untouched; a shorter one is refusal 11.
+/// The eleven lists that the library works in: document 01's in its order, and the Ritz record. Longer ones than a run needs are allowed and
+/// their rest stays untouched; a shorter one is refusal 11.
 #[derive(Clone, Debug, Default)]
 pub struct Memory {
     /// List 0: inverse weights, one per row.
@@ -51,12 +51,16 @@ pub struct Memory {
     pub marks: Vec<u8>,
     /// List 9: the seed, D numbers per row.
     pub output: Vec<f64>,
+    /// List 10: the Ritz record, D + 9 numbers per round: the bound that its filter used, then its Ritz values. Places of rounds whose products
+    /// are not closed are as they were lent. [`RitzRecord::new`](crate::RitzRecord::new) reads it.
+    pub ritz_record: Vec<f64>,
 }
 
 impl Memory {
-    /// Zeros, as many as this many dimensions, rows and entries need; refusals 1, 2 and 3, and 11 where the machine has not so much memory.
-    pub fn new(dims: usize, rows: usize, entries: usize) -> Result<Memory, Refusal> {
-        let lengths = Memory::lengths_for(dims, rows, entries)?;
+    /// Zeros, as many as this many dimensions, rounds, rows and entries need; refusals 1, 2, 3 and 8, and 11 where the machine has not so much
+    /// memory.
+    pub fn new(dims: usize, rounds: u64, rows: usize, entries: usize) -> Result<Memory, Refusal> {
+        let lengths = Memory::lengths_for(dims, rounds, rows, entries)?;
         Ok(Memory {
             inverse: zeros(0, &lengths)?,
             v0: zeros(1, &lengths)?,
@@ -68,16 +72,17 @@ impl Memory {
             partials: zeros(7, &lengths)?,
             marks: zeros(8, &lengths)?,
             output: zeros(9, &lengths)?,
+            ritz_record: zeros(10, &lengths)?,
         })
     }
 
-    /// What this graph needs.
-    pub fn for_graph(graph: &Graph<'_>, dims: usize) -> Result<Memory, Refusal> {
-        Memory::new(dims, graph.rows(), graph.columns.len())
+    /// What a run over this graph needs; of the parameters the rounds count.
+    pub fn for_graph(graph: &Graph<'_>, dims: usize, params: Params) -> Result<Memory, Refusal> {
+        Memory::new(dims, params.get_rounds(), graph.rows(), graph.columns.len())
     }
 
     /// How long each list is.
-    pub fn lengths(&self) -> [usize; 10] {
+    pub fn lengths(&self) -> [usize; 11] {
         [
             self.inverse.len(),
             self.v0.len(),
@@ -89,20 +94,21 @@ impl Memory {
             self.partials.len(),
             self.marks.len(),
             self.output.len(),
+            self.ritz_record.len(),
         ]
     }
 
-    /// How long each list must at least be; refusals 1, 2 and 3.
-    pub fn lengths_for(dims: usize, rows: usize, entries: usize) -> Result<[usize; 10], Refusal> {
+    /// How long each list must at least be; refusals 1, 2, 3 and 8, in this order.
+    pub fn lengths_for(dims: usize, rounds: u64, rows: usize, entries: usize) -> Result<[usize; 11], Refusal> {
         // SAFETY: numbers by value only.
-        let sizes = in_default(|| unsafe { ffi::threshcinch_lent_sizes(dims as u64, rows, entries) });
+        let sizes = in_default(|| unsafe { ffi::threshcinch_lent_sizes(dims as u64, rounds, rows, entries) });
         Refusal::check(sizes.verdict)?;
         Ok(sizes.lengths)
     }
 }
 
 /// List `place` as zeros, or refusal 11 at that place: a machine with too little memory lends too short a list.
-fn zeros<T: Clone + Default>(place: usize, lengths: &[usize; 10]) -> Result<Vec<T>, Refusal> {
+fn zeros<T: Clone + Default>(place: usize, lengths: &[usize; 11]) -> Result<Vec<T>, Refusal> {
     let mut list = Vec::new();
     match list.try_reserve_exact(lengths[place]) {
         Ok(()) => list.resize(lengths[place], T::default()),
@@ -115,7 +121,7 @@ fn zeros<T: Clone + Default>(place: usize, lengths: &[usize; 10]) -> Result<Vec<
 #[derive(Clone, Copy)]
 struct List<P>(P, usize);
 
-/// The thirteen lists as the library takes them. Pointers, so that several threads may hold them at once; whoever calls answers for that.
+/// The fourteen lists as the library takes them. Pointers, so that several threads may hold them at once; whoever calls answers for that.
 #[derive(Clone, Copy)]
 pub(crate) struct Lists {
     starts: List<*const u64>,
@@ -131,6 +137,7 @@ pub(crate) struct Lists {
     partials: List<*mut f64>,
     marks: List<*mut u8>,
     output: List<*mut f64>,
+    ritz_record: List<*mut f64>,
 }
 
 // SAFETY: addresses and lengths alone; nothing is read or written but in the unsafe calls below, which say when they may be made.
@@ -154,6 +161,7 @@ macro_rules! on_lists {
             $lists.partials.0, $lists.partials.1,
             $lists.marks.0, $lists.marks.1,
             $lists.output.0, $lists.output.1,
+            $lists.ritz_record.0, $lists.ritz_record.1,
         )
     };
 }
@@ -181,6 +189,7 @@ impl Lists {
             partials: lent(&mut memory.partials),
             marks: lent(&mut memory.marks),
             output: lent(&mut memory.output),
+            ritz_record: lent(&mut memory.ritz_record),
         }
     }
 

@@ -43,7 +43,7 @@ pub enum Reason {
     Degree = 9,
     /// The seed's standard deviation is not positive and finite.
     SeedStd = 10,
-    /// Lent memory is too short, or the machine has not so much. Place: the first such list, 0 to 9.
+    /// Lent memory is too short, or the machine has not so much. Place: the first such list, 0 to 10.
     Memory = 11,
     /// The chunk number is not below the number of chunks. Place: the number offered.
     NoChunk = 12,

@@ -3,7 +3,7 @@
 use crate::arithmetic::in_default;
 use crate::ffi::{self, Answer, State};
 use crate::memory::Lists;
-use crate::{Graph, Memory, Params, Refusal, Seed};
+use crate::{Graph, Memory, Params, Refusal, RitzRecord, Seed};
 
 /// The stages, by the number that the state has.
 const STAGES: [&str; 21] = [
@@ -29,6 +29,9 @@ const STAGES: [&str; 21] = [
     "scale",
     "ended",
 ];
+
+/// The stage whose closing writes a round's part of the Ritz record.
+const PRODUCTS: usize = 14;
 
 /// How far a run has come.
 #[derive(Clone, Copy, Debug, PartialEq, Eq)]
@@ -70,7 +73,7 @@ pub struct Run<'g> {
 impl<'g> Run<'g> {
     /// Opens a run: refusals 1 to 7, and 11 where the machine has not the memory.
     pub fn open(graph: &Graph<'g>, dims: usize, params: Params) -> Result<Run<'g>, Refusal> {
-        let mut memory = Memory::for_graph(graph, dims)?;
+        let mut memory = Memory::for_graph(graph, dims, params)?;
         // SAFETY: the lists are made here, of a graph that lives for 'g and of memory that nobody else has.
         let answer = unsafe { Lists::of(graph, &mut memory).open(dims, params) };
         Refusal::check(answer.verdict)?;
@@ -109,6 +112,13 @@ impl<'g> Run<'g> {
         &self.memory
     }
 
+    /// The Ritz record so far: the rounds whose products are closed.
+    pub fn ritz_record(&self) -> RitzRecord {
+        let written = if self.state.progress.stage > PRODUCTS { self.state.asked.rounds } else { self.state.progress.round };
+        // The memory holds every round.
+        RitzRecord::new(self.state.asked.dims, written, self.memory.ritz_record.clone()).unwrap_or_default()
+    }
+
     /// How many chunks each stage has: one per 4,096 rows.
     pub fn chunk_count(&self) -> usize {
         self.memory.marks.len()
@@ -125,7 +135,7 @@ impl<'g> Run<'g> {
             return Err(Box::new(self));
         }
         let asked = &self.state.asked;
-        Ok(Seed { rows: asked.rows, dims: asked.dims, values: self.memory.output, counts: self.state.counts })
+        Ok(Seed::of(asked.rows, asked.dims, asked.rounds, self.memory, self.state.counts))
     }
 
     /// The run's lists, for calls that are made before anything else touches the run.

@@ -5,13 +5,16 @@
 //! | bytes | what |
 //! |---|---|
 //! | 8 | the letters `TCINCHRN` |
-//! | 8 | version, 1 |
+//! | 8 | version, 2 |
 //! | 3 x 8 | lengths of the graph's starts, columns and values |
 //! | 8 | check sum of the graph's lists |
-//! | 10 x 8 | lengths of the lent lists 0 to 9 |
+//! | 11 x 8 | lengths of the lent lists 0 to 10 |
 //! | 5,688 | the state, field after field (docs/STATE.md) |
-//! | | the lent lists 0 to 9: 8 bytes an element, but 4 for the edge columns and 1 for the marks |
+//! | | the lent lists 0 to 10: 8 bytes an element, but 4 for the edge columns and 1 for the marks |
 //! | 8 | check sum of all bytes before it |
+//!
+//! Version 1, of threshcinch 0.1, had no list 10, the Ritz record. A run that was saved so is not taken: the places of the rounds that it has
+//! closed are not to be had from it.
 //!
 //! A check sum is FNV-1a of 64 bits. Each of its steps is one-to-one, so that one changed byte always changes it; it keeps out accidents,
 //! not forgers. What a forger can reach is a run that meets refusal 16 or has another seed: the library asks for nothing first.
@@ -20,12 +23,14 @@ use crate::ffi::{Asked, Counts, State, StateProgress};
 use crate::{Graph, Memory, Reason, Refusal, Run};
 
 const LETTERS: [u8; 8] = *b"TCINCHRN";
-const VERSION: u64 = 1;
+const VERSION: u64 = 2;
+/// The version that had no Ritz record.
+const WITHOUT_RECORD: u64 = 1;
 const STATE_WORDS: usize = size_of::<State>() / 8;
 /// Letters, version, the graph's lengths and check sum, the lists' lengths.
-const HEAD_BYTES: usize = 8 * (1 + 1 + 3 + 1 + 10);
+const HEAD_BYTES: usize = 8 * (1 + 1 + 3 + 1 + 11);
 /// How many bytes an element of each lent list has.
-const ELEMENT_BYTES: [usize; 10] = [8, 8, 4, 8, 8, 8, 8, 8, 1, 8];
+const ELEMENT_BYTES: [usize; 11] = [8, 8, 4, 8, 8, 8, 8, 8, 1, 8, 8];
 
 /// Why saved bytes are not loaded.
 #[derive(Clone, Copy, Debug, PartialEq, Eq)]
@@ -34,6 +39,8 @@ pub enum LoadError {
     NotASave,
     /// They are a saved run of a version that this crate does not read.
     Version(u64),
+    /// They are a saved run of threshcinch 0.1, which kept no Ritz record.
+    NoRitzRecord,
     /// There are fewer or more of them than they say.
     Length,
     /// Their check sum is wrong: some byte was changed.
@@ -51,6 +58,9 @@ impl std::fmt::Display for LoadError {
         match self {
             LoadError::NotASave => write!(to, "the bytes are not a saved run"),
             LoadError::Version(version) => write!(to, "the saved run has version {version}, and only {VERSION} is read"),
+            LoadError::NoRitzRecord => {
+                write!(to, "the saved run is of threshcinch 0.1, which kept no Ritz record: go on with it there, or begin it anew")
+            }
             LoadError::Length => write!(to, "the saved run has fewer or more bytes than it says"),
             LoadError::CheckSum => write!(to, "the saved run's check sum is wrong: it was changed"),
             LoadError::OtherGraph => write!(to, "the saved run is over another graph"),
@@ -121,7 +131,7 @@ impl<'g> Run<'g> {
 struct Head {
     graph_lengths: [u64; 3],
     graph_sum: u64,
-    lengths: [u64; 10],
+    lengths: [u64; 11],
 }
 
 /// The bytes are as many as they say, and their check sum is right.
@@ -149,10 +159,10 @@ fn check_graph(head: &Head, graph: &Graph<'_>) -> Result<(), LoadError> {
 }
 
 /// The state's sizes are the graph's, and the lists have the lengths that the library names for them.
-fn check_lengths(graph: &Graph<'_>, state: &State, lengths: &[u64; 10]) -> Result<(), LoadError> {
+fn check_lengths(graph: &Graph<'_>, state: &State, lengths: &[u64; 11]) -> Result<(), LoadError> {
     let asked = &state.asked;
     let damaged = |_| LoadError::Refused(Reason::Damaged.at(0));
-    let needed = Memory::lengths_for(asked.dims, asked.rows, asked.entries).map_err(damaged)?;
+    let needed = Memory::lengths_for(asked.dims, asked.rounds as u64, asked.rows, asked.entries).map_err(damaged)?;
     let whole_graph = asked.rows == graph.rows() && asked.entries == graph.columns.len() && asked.entries == graph.values.len();
     if !whole_graph || needed.map(|length| length as u64) != *lengths {
         return Err(LoadError::Lists);
@@ -161,7 +171,7 @@ fn check_lengths(graph: &Graph<'_>, state: &State, lengths: &[u64; 10]) -> Resul
 }
 
 /// How long a save with lists of these lengths is; nothing where that is more than a machine can address.
-fn bytes_of(lengths: &[usize; 10]) -> Option<usize> {
+fn bytes_of(lengths: &[usize; 11]) -> Option<usize> {
     let lists = lengths.iter().zip(ELEMENT_BYTES).try_fold(0usize, |sum, (&length, bytes)| sum.checked_add(length.checked_mul(bytes)?))?;
     lists.checked_add(HEAD_BYTES + 8 * STATE_WORDS + 8)
 }
@@ -211,6 +221,7 @@ fn put_memory(bytes: &mut Vec<u8>, memory: &Memory) {
     put_floats(bytes, &memory.partials);
     bytes.extend_from_slice(&memory.marks);
     put_floats(bytes, &memory.output);
+    put_floats(bytes, &memory.ritz_record);
 }
 
 /// Takes numbers from the front of bytes; `Length` where they end too early.
@@ -225,6 +236,7 @@ impl Reader<'_> {
         }
         match self.word()? {
             VERSION => {}
+            WITHOUT_RECORD => return Err(LoadError::NoRitzRecord),
             other => return Err(LoadError::Version(other)),
         }
         let graph_lengths = self.words()?;
@@ -277,7 +289,7 @@ impl Reader<'_> {
     /// The lists, with the lengths that the state needs.
     fn memory(&mut self, state: &State) -> Result<Memory, LoadError> {
         let asked = &state.asked;
-        let mut memory = Memory::new(asked.dims, asked.rows, asked.entries).map_err(LoadError::Refused)?;
+        let mut memory = Memory::new(asked.dims, asked.rounds as u64, asked.rows, asked.entries).map_err(LoadError::Refused)?;
         self.floats(&mut memory.inverse)?;
         self.floats(&mut memory.v0)?;
         self.fill(&mut memory.edge_columns, u32::from_le_bytes)?;
@@ -288,6 +300,7 @@ impl Reader<'_> {
         self.floats(&mut memory.partials)?;
         self.fill(&mut memory.marks, u8::from_le_bytes)?;
         self.floats(&mut memory.output)?;
+        self.floats(&mut memory.ritz_record)?;
         Ok(memory)
     }
 

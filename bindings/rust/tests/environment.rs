@@ -149,13 +149,15 @@ extern "C" {
         marks_length: usize,
         output: *mut f64,
         output_length: usize,
+        ritz_record: *mut f64,
+        ritz_record_length: usize,
     ) -> BareEmbedded;
 }
 
 /// The one call of one dimension as the library has it, in whatever arithmetic it finds: its refusal's number.
 fn bare_call(graph: &Graph<'_>, params: Params, memory: &mut Memory) -> u64 {
     let params = BareParams { rounds: params.get_rounds(), degree: params.get_degree(), seed_std: params.get_seed_std() };
-    let Memory { inverse, v0, edge_columns, edge_weights, block0, block1, block2, partials, marks, output } = memory;
+    let Memory { inverse, v0, edge_columns, edge_weights, block0, block1, block2, partials, marks, output, ritz_record } = memory;
     // SAFETY: each address and length is a list's that is borrowed for this call, the written ones for it alone.
     #[rustfmt::skip]
     let embedded = unsafe {
@@ -166,6 +168,7 @@ fn bare_call(graph: &Graph<'_>, params: Params, memory: &mut Memory) -> u64 {
             edge_columns.as_mut_ptr(), edge_columns.len(), edge_weights.as_mut_ptr(), edge_weights.len(),
             block0.as_mut_ptr(), block0.len(), block1.as_mut_ptr(), block1.len(), block2.as_mut_ptr(), block2.len(),
             partials.as_mut_ptr(), partials.len(), marks.as_mut_ptr(), marks.len(), output.as_mut_ptr(), output.len(),
+            ritz_record.as_mut_ptr(), ritz_record.len(),
         )
     };
     let BareEmbedded { number, place: _, counts: _ } = embedded;
@@ -180,7 +183,7 @@ fn the_bare_call_shows_the_environment() {
     let expected = spectral_embedding(&graph, 1, params).unwrap();
     for (name, register, changes) in ENVIRONMENTS {
         let Some(changes) = changes else { continue };
-        let mut memory = Memory::for_graph(&graph, 1).unwrap();
+        let mut memory = Memory::for_graph(&graph, 1, params).unwrap();
         let (number, _) = in_environment(register, || bare_call(&graph, params, &mut memory));
         assert_eq!(number, 0, "{name}");
         assert_eq!(bits(&memory.output) != bits(&expected.values), changes, "{name}");
@@ -191,11 +194,11 @@ fn the_bare_call_shows_the_environment() {
 fn the_one_call_has_the_defaults_bits() {
     let lists = Subnormal::new(4200);
     let graph = lists.graph();
-    let mut expected = Memory::for_graph(&graph, 1).unwrap();
+    let mut expected = Memory::for_graph(&graph, 1, quick()).unwrap();
     let counts = spectral_embedding_in(&graph, 1, quick(), &mut expected).unwrap();
     in_each_environment(
         || {
-            Memory::for_graph(&graph, 1)
+            Memory::for_graph(&graph, 1, quick())
                 .and_then(|mut memory| spectral_embedding_in(&graph, 1, quick(), &mut memory).map(|counts| (memory, counts)))
         },
         |found, name| {

@@ -12,7 +12,7 @@ use threshcinch::{
 
 /// The memory and counts that the one call leaves.
 fn one_call(graph: &Graph<'_>, dims: usize) -> (Memory, threshcinch::Counts) {
-    let mut memory = Memory::for_graph(graph, dims).unwrap();
+    let mut memory = Memory::for_graph(graph, dims, quick()).unwrap();
     let counts = spectral_embedding_in(graph, dims, quick(), &mut memory).unwrap();
     (memory, counts)
 }

@@ -3,7 +3,7 @@
 mod common;
 
 use common::{bits, quick, refusal, ring::Ring};
-use threshcinch::{bhtsne, spectral_embedding, spectral_embedding_in, Counts, Graph, Memory, Params, Seed};
+use threshcinch::{bhtsne, spectral_embedding, spectral_embedding_in, Counts, Graph, Memory, Params, RitzRecord, Seed};
 
 fn least() -> Params {
     Params::new().rounds(1).and_then(|params| params.degree(1)).expect("in range")
@@ -29,7 +29,7 @@ fn case_11_one_row_without_entries() {
 fn case_12_a_degree_that_overflows() {
     let graph = Graph::new(&[0, 2, 3], &[0, 1, 0], &[1e308, 1e308, 1e308]);
     for dims in 1..=7 {
-        let mut memory = Memory::for_graph(&graph, dims).unwrap();
+        let mut memory = Memory::for_graph(&graph, dims, least()).unwrap();
         let counts = spectral_embedding_in(&graph, dims, least(), &mut memory).unwrap();
         assert!(memory.v0.iter().any(|number| number.is_nan()));
         assert_eq!(counts.zeroed, dims + 8, "every column is zeroed");
@@ -39,16 +39,17 @@ fn case_12_a_degree_that_overflows() {
 
 #[test]
 fn case_6_chunks() {
-    let chunks = |rows: usize| Memory::lengths_for(1, rows, 0).unwrap()[8];
+    let chunks = |rows: usize| Memory::lengths_for(1, 1, rows, 0).unwrap()[8];
     assert_eq!([chunks(1), chunks(4096), chunks(4097), chunks(1_048_576)], [1, 1, 2, 256]);
 }
 
 #[test]
 fn lent_sizes_are_document_01s() {
-    // Three chunks; k is 10.
-    let expected = [9000, 9000, 7, 7, 90_000, 90_000, 90_000, 300, 3, 18_000];
-    assert_eq!(Memory::lengths_for(2, 9000, 7), Ok(expected));
-    assert_eq!(Memory::new(2, 9000, 7).unwrap().lengths(), expected);
+    // Three chunks; k is 10, and the Ritz record has a bound and k values for each of 5 rounds.
+    let expected = [9000, 9000, 7, 7, 90_000, 90_000, 90_000, 300, 3, 18_000, 55];
+    assert_eq!(Memory::lengths_for(2, 5, 9000, 7), Ok(expected));
+    assert_eq!(Memory::new(2, 5, 9000, 7).unwrap().lengths(), expected);
+    assert_eq!(Memory::lengths_for(7, 1000, 1, 0).unwrap()[10], 16_000);
 }
 
 #[test]
@@ -80,7 +81,7 @@ fn the_columns_have_the_deviation_asked_for() {
 #[test]
 fn rows_of_a_seed() {
     let counts = Counts::default();
-    let seed = Seed { rows: 2, dims: 2, values: vec![1.0, 2.0, 3.0, 4.0], counts };
+    let seed = Seed { rows: 2, dims: 2, values: vec![1.0, 2.0, 3.0, 4.0], counts, ritz_record: RitzRecord::default() };
     assert_eq!(seed.row(0), Some(&[1.0, 2.0][..]));
     assert_eq!(seed.row(1), Some(&[3.0, 4.0][..]));
     assert_eq!([seed.row(2), seed.row(usize::MAX), seed.row(usize::MAX / 2)], [None; 3]);
@@ -102,7 +103,7 @@ fn bhtsnes_call_gives_the_same() {
 fn memory_that_is_longer_or_was_used_before_changes_nothing() {
     let (small, large) = (Ring::new(40, 7, 1), Ring::new(5000, 7, 2));
     let alone = spectral_embedding(&small.graph(), 1, quick()).unwrap();
-    let mut memory = Memory::for_graph(&large.graph(), 1).unwrap();
+    let mut memory = Memory::for_graph(&large.graph(), 1, quick()).unwrap();
     spectral_embedding_in(&large.graph(), 1, quick(), &mut memory).unwrap();
     let before = memory.clone();
     let counts = spectral_embedding_in(&small.graph(), 1, quick(), &mut memory).unwrap();

@@ -3,7 +3,7 @@
 
 mod common;
 
-use common::{quick, refusal};
+use common::{assert_same_memory, quick, refusal};
 use threshcinch::{
     spectral_embedding, spectral_embedding_in, spectral_embedding_with_threads, Graph, Memory, Params, Reason, Refusal, Run,
 };
@@ -37,10 +37,10 @@ fn number_2_no_rows() {
 fn number_3_limits() {
     let starts = vec![0; 1_048_576 + 2];
     assert_eq!(begin(Graph::new(&starts, &[], &[]), 1), refusal(3, 0));
-    assert_eq!(Memory::lengths_for(1, 1_048_577, 0), Err(refusal(3, 0)));
-    assert_eq!(Memory::lengths_for(1, 1, 67_108_865), Err(refusal(3, 0)));
-    assert_eq!(Memory::lengths_for(1, usize::MAX, usize::MAX), Err(refusal(3, 0)));
-    assert!(Memory::lengths_for(7, 1_048_576, 67_108_864).is_ok());
+    assert_eq!(Memory::lengths_for(1, 1, 1_048_577, 0), Err(refusal(3, 0)));
+    assert_eq!(Memory::lengths_for(1, 1, 1, 67_108_865), Err(refusal(3, 0)));
+    assert_eq!(Memory::lengths_for(1, 1, usize::MAX, usize::MAX), Err(refusal(3, 0)));
+    assert!(Memory::lengths_for(7, 1000, 1_048_576, 67_108_864).is_ok());
 }
 
 #[test]
@@ -69,6 +69,18 @@ fn number_7_value() {
     assert_eq!(begin(Graph::new(&[0, 3], &[0, 0, 0], &[1.0, -1.0, f64::NEG_INFINITY]), 1), refusal(7, 2));
 }
 
+#[test]
+fn number_8_rounds_of_lent_sizes() {
+    for rounds in [0, 1001, u64::MAX] {
+        assert_eq!(Memory::lengths_for(1, rounds, 1, 0), Err(refusal(8, 0)));
+        assert_eq!(Memory::new(7, rounds, 1_048_576, 67_108_864).err(), Some(refusal(8, 0)));
+        // 1, 2 and 3 come first.
+        assert_eq!(Memory::lengths_for(0, rounds, 0, 67_108_865), Err(refusal(1, 0)));
+        assert_eq!(Memory::lengths_for(1, rounds, 0, 67_108_865), Err(refusal(2, 0)));
+        assert_eq!(Memory::lengths_for(1, rounds, 1, 67_108_865), Err(refusal(3, 0)));
+    }
+}
+
 /// Takes one element from a list of the memory.
 type Shorten = fn(&mut Memory);
 
@@ -79,7 +91,7 @@ fn cut<T>(list: &mut Vec<T>) {
 #[test]
 fn number_11_memory() {
     let graph = Graph::new(&[0, 1], &[0], &[1.0]);
-    let shorten: [Shorten; 10] = [
+    let shorten: [Shorten; 11] = [
         |memory| cut(&mut memory.inverse),
         |memory| cut(&mut memory.v0),
         |memory| cut(&mut memory.edge_columns),
@@ -90,10 +102,17 @@ fn number_11_memory() {
         |memory| cut(&mut memory.partials),
         |memory| cut(&mut memory.marks),
         |memory| cut(&mut memory.output),
+        |memory| cut(&mut memory.ritz_record),
     ];
     for (place, shorten) in shorten.iter().enumerate() {
-        let mut memory = Memory::for_graph(&graph, 1).unwrap();
+        let mut memory = Memory::for_graph(&graph, 1, quick()).unwrap();
+        memory.ritz_record.fill(-7.0);
         shorten(&mut memory);
+        let before = memory.clone();
+        assert_eq!(spectral_embedding_in(&graph, 1, quick(), &mut memory), Err(refusal(11, place as u64)));
+        assert_same_memory(&memory, &before);
+        // Of two short lists the first is named.
+        cut(&mut memory.ritz_record);
         assert_eq!(spectral_embedding_in(&graph, 1, quick(), &mut memory), Err(refusal(11, place as u64)));
     }
     assert_eq!(spectral_embedding_in(&graph, 1, quick(), &mut Memory::default()), Err(refusal(11, 0)));

@@ -4,13 +4,13 @@ mod common;
 
 use std::ops::ControlFlow;
 
-use common::{assert_same_memory, quick, refusal, ring::Ring};
-use threshcinch::{spectral_embedding_in, Driven, Graph, LoadError, Memory, Run};
+use common::{assert_same_memory, bits, quick, refusal, ring::Ring};
+use threshcinch::{spectral_embedding, spectral_embedding_in, Driven, Graph, LoadError, Memory, Run};
 
 /// Where the parts of a save begin; src/save.rs has the table.
 const GRAPH_SUM: usize = 40;
 const LENGTHS: usize = 48;
-const STATE: usize = 128;
+const STATE: usize = 136;
 const STAGE: usize = STATE + 48;
 const LISTS: usize = STATE + 5688;
 
@@ -59,7 +59,7 @@ fn load_error(bytes: &[u8]) -> Option<LoadError> {
 fn a_run_saved_and_loaded_in_every_kind_of_stage_is_the_one_call() {
     let ring = Ring::new(9000, 50, 11);
     let graph = ring.graph();
-    let mut memory = Memory::for_graph(&graph, 1).unwrap();
+    let mut memory = Memory::for_graph(&graph, 1, quick()).unwrap();
     let counts = spectral_embedding_in(&graph, 1, quick(), &mut memory).unwrap();
     let orders = [[0, 1, 2], [0, 2, 1], [1, 0, 2], [1, 2, 0], [2, 0, 1], [2, 1, 0]];
     let mut run = Run::open(&graph, 1, quick()).unwrap();
@@ -132,6 +132,55 @@ fn every_changed_bit_is_refused() {
     assert_eq!(load_error(&bytes), None);
 }
 
+/// The run as threshcinch 0.1 saved it: version 1, without the Ritz record and its length.
+fn without_record(run: &Run<'_>) -> Vec<u8> {
+    let bytes = run.save();
+    let record = bytes.len() - 8 - 8 * run.memory().ritz_record.len();
+    let mut old = [&bytes[..8], &1u64.to_le_bytes(), &bytes[16..STATE - 8], &bytes[STATE..record], &[0; 8]].concat();
+    resum(&mut old);
+    old
+}
+
+#[test]
+fn a_save_without_the_ritz_record_is_refused_with_a_word_why() {
+    let run = small();
+    let old = without_record(&run);
+    // Its lists are as long as the ten lengths say: 8 bytes for a number, 4 for a column, 1 for a mark.
+    let lengths = run.memory().lengths();
+    let lists: usize = [8, 8, 4, 8, 8, 8, 8, 8, 1, 8].iter().zip(lengths).map(|(bytes, length)| bytes * length).sum();
+    assert_eq!(old.len(), 128 + 5688 + lists + 8);
+    assert_eq!(load_error(&old), Some(LoadError::NoRitzRecord));
+    let words = LoadError::NoRitzRecord.to_string();
+    assert_eq!(words, "the saved run is of threshcinch 0.1, which kept no Ritz record: go on with it there, or begin it anew");
+    // A version to come has other words.
+    let newer = load_error(&forged(&run.save(), 8, 3)).unwrap();
+    assert_eq!((newer, newer.to_string().as_str()), (LoadError::Version(3), "the saved run has version 3, and only 2 is read"));
+}
+
+/// The bits of all its numbers, as they stand at the end of a save before its sum.
+fn record_in(bytes: &[u8], length: usize) -> Vec<u64> {
+    let list = &bytes[bytes.len() - 8 - 8 * length..bytes.len() - 8];
+    list.chunks_exact(8).map(|word| u64::from_le_bytes(word.try_into().unwrap())).collect()
+}
+
+#[test]
+fn a_save_holds_the_ritz_record_as_its_last_list() {
+    let params = quick().rounds(3).unwrap();
+    let mut run = Run::open(&small_graph(), 1, params).unwrap();
+    let mut saved_rounds = std::collections::BTreeSet::new();
+    while run.is_open() {
+        run.chunk(0).unwrap();
+        run.close().unwrap();
+        let bytes = run.save();
+        assert_eq!(record_in(&bytes, 3 * 10), bits(&run.memory().ritz_record));
+        run = Run::load(&small_graph(), &bytes).unwrap();
+        saved_rounds.insert(run.ritz_record().rounds());
+    }
+    assert_eq!(saved_rounds.into_iter().collect::<Vec<_>>(), [0, 1, 2, 3]);
+    let one = spectral_embedding(&small_graph(), 1, params).unwrap();
+    assert!(run.finish().unwrap().ritz_record.same_bits(&one.ritz_record));
+}
+
 #[test]
 fn every_cut_and_every_addition_is_refused() {
     let mut bytes = small().save();
@@ -147,7 +196,7 @@ fn every_cut_and_every_addition_is_refused() {
 #[test]
 fn lengths_that_no_machine_has_are_refused() {
     let bytes = small().save();
-    for list in 0..10 {
+    for list in 0..11 {
         for length in [u64::MAX, u64::MAX / 2, 1 << 61, 1 << 40] {
             assert_eq!(load_error(&forged(&bytes, LENGTHS + 8 * list, length)), Some(LoadError::Length));
         }
@@ -205,7 +254,8 @@ fn number_16_a_forged_state() {
 #[test]
 fn sizes_that_are_not_the_graphs_are_refused() {
     let bytes = small().save();
-    for (field, word) in [(0, 2), (1, 1), (1, 3), (2, 1), (2, 3)] {
+    // D, rows, entries; and other rounds need another Ritz record.
+    for (field, word) in [(0, 2), (1, 1), (1, 3), (2, 1), (2, 3), (3, 2), (3, 1000)] {
         assert_eq!(load_error(&forged(&bytes, STATE + 8 * field, word)), Some(LoadError::Lists));
     }
 }
@@ -222,7 +272,7 @@ fn number_16_a_forged_mark_or_column() {
     let run = Run::open(&graph, 1, quick()).unwrap();
     let lengths = run.memory().lengths();
     let bytes = run.save();
-    let marks = bytes.len() - 8 - 8 * lengths[9] - lengths[8];
+    let marks = bytes.len() - 8 - 8 * (lengths[10] + lengths[9]) - lengths[8];
     let mut marked = bytes.clone();
     marked[marks + 1] = 2;
     resum(&mut marked);

@@ -1,15 +1,18 @@
 -- Closing by the stage's number: one that names a stage, and one where no run is open.
-use mathlib.Core.Path.{_≡_}
+use mathlib.Core.Path.{_≡_, refl}
+use mathlib.Core.Bool.{false}
 use mathlib.Core.List.{List, [], _∷_}
 use Prim.Native.Nat.{ℕ, zero, suc, _≤_, _<_}
 use native.Mathlib.Omega.{arith}
+use borrow.Author.Tests.{eq-eqb, ne-eqb}
+use lib.Dec.{eqb}
 use lib.Ieee.{Float}
 use lib.ListN.{List·getD-eq-default}
 use Rattle.definition.specs.Arith.{ieee64}
 use Rattle.definition.proofs.Fill.{same-or}
-use Rattle.machine.specs.State.{Stage, stageOf, State}
+use Rattle.machine.specs.State.{Stage, stageOf, wide, State}
 use Rattle.machine.specs.State as stage
-use Rattle.machine.specs.Closing.{closedBy}
+use Rattle.machine.specs.Closing.{closedBy, roundRecorded, recordAfter}
 
 -- ---- a number that names no stage of an open run
 abbrev stages : List Stage
@@ -39,3 +42,15 @@ module _ (s : State ieee64) (roots partials : List Float) where
   -- what closing makes of stage m, where the stage's number is m
   pub at-stage : (n m : ℕ) → n ≡ m → {r : State ieee64} → r ≡ closedBy ieee64 (stageOf m) s roots partials → r ≡ closedBy ieee64 (stageOf n) s roots partials
   at-stage n m e h = rw e h
+
+-- ---- the Ritz record: as it was but where the products close
+module _ (s next : State ieee64) (l : List Float) where
+  pub record-kept : (m : ℕ) → s .progress .stage ≡ m → eqb m 14 ≡ false → l ≡ recordAfter ieee64 s next l
+  record-kept m e f = rw (e, f) refl
+
+  pub record-idle : NoneTo (s .progress .stage) 19 → l ≡ recordAfter ieee64 s next l
+  record-idle h = record-kept (s .progress .stage) refl (ne-eqb (s .progress .stage) 14 (h .0 .0 .0 .0 .0 .1))
+
+  pub record-written : {ritz : List Float} → s .progress .stage ≡ 14
+      → ritz ≡ roundRecorded ieee64 (wide (s .asked)) (s .progress .round) (s .progress .bound) (next .matrix) (next .order) l → ritz ≡ recordAfter ieee64 s next l
+  record-written e w = rw (eq-eqb (s .progress .stage) 14 e) w

@@ -5,8 +5,9 @@ ghost use lib.ListN.{length, getD};
 ghost use Rattle.definition.specs.Arith.{ieee64};
 ghost use Rattle.machine.specs.State.{wide, chunkCount};
 ghost use Rattle.machine.specs.Ready.{AskedReady, StateReady};
-ghost use Rattle.machine.specs.Closing.{afterProducts, afterRound};
+ghost use Rattle.machine.specs.Closing.{afterProducts, afterRound, roundRecorded};
 ghost use Rattle.state.specs.Said.{askedIn, progressIn, stateIn};
+use crate::record::record_round;
 use crate::reduced;
 use state::Asked;
 use state::Progress;
@@ -51,10 +52,12 @@ fn after_products(
     next
 }
 
-pub fn close_products(state: State, partials: &[f64]) -> State
+pub fn close_products(state: State, partials: &[f64], ritz_record: &mut [f64]) -> State
     requires { ⌜ StateReady ieee64 (stateIn state) ⌝ }
     requires { ⌜ chunkCount (askedIn (state .asked)) * wide (askedIn (state .asked)) * wide (askedIn (state .asked)) ≤ length (now partials) ⌝ }
+    requires { ⌜ state .asked .rounds * (wide (askedIn (state .asked)) + 1) ≤ length (now «ritz_record») ⌝ }
     ensures { λ r. ⌜ stateIn r ≡ afterRound ieee64 (stateIn state) (now (partials .entry)) ⌝ }
+    ensures { λ r. ⌜ now («ritz_record» .exit) ≡ roundRecorded ieee64 (wide (askedIn (state .asked))) (state .progress .round) (state .progress .bound) (r .matrix) (r .order) (now («ritz_record» .entry)) ⌝ }
 {
     let asked = state.asked;
     let p = state.progress;
@@ -66,6 +69,8 @@ pub fn close_products(state: State, partials: &[f64]) -> State
     let vectors = eigen.vectors;
     let order = ritz::ritz_order(k, matrix);
     let progress = after_products(asked, p, matrix, order);
+    // The bound that the round's filter used, and not the one that it sets.
+    record_round(k, p.round, p.bound, &matrix, order, ritz_record);
     let mut next = state;
     next.progress = progress;
     next.totals = products;

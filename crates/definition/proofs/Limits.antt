@@ -17,6 +17,7 @@ pub record Fits (d n m rounds degree : ℕ) : Type 0 where
   pub block : n * width d * 8 < 2 ^ 63
   pub partials : chunks n * width d * width d * 8 < 2 ^ 63
   pub output : n * d * 8 < 2 ^ 63
+  pub ritzRecord : rounds * (width d + 1) * 8 < 2 ^ 63
   pub lists : m * 8 < 2 ^ 63
   pub passes : rounds * (degree + 1) < 2 ^ 63
   -- as many stages as a run can have, and its accepted calls
@@ -50,10 +51,12 @@ sizes-fit d n m rounds degree h =
     let c = chunks-few n (h .rows) in
     let c1 : chunks n + 1 ≤ 257 = omega arith in
     let d1 : degree + 1 ≤ 1_001 = omega arith in
+    let k1 : width d + 1 ≤ 16 = omega arith in
     record {
       block = omega (arith, under (h .rows) k);
       partials = omega (arith, under (under c k) k);
       output = omega (arith, under (h .rows) (h .dims));
+      ritzRecord = omega (arith, under (h .rounds-few) k1);
       lists = omega arith;
       passes = omega (arith, under (h .rounds-few) d1);
       calls = omega (arith, under (stages-few rounds degree (width d) (h .rounds-few) (h .degree-few) k) c1);

@@ -85,6 +85,10 @@ module _ (A : Arith) where
   abbrev pub ritzValue : Matrix A → Vector A
   ritzValue b p = b p p
 
+  -- the value at place j of the Ritz order
+  unfoldable pub fallingValue : ℕ → Vector A → ℕ → A .F
+  fallingValue k value j = value (getD (ritzOrder k value) j 0)
+
   -- raised to 0.1 and lowered to 0.9995; NaN becomes 0.1
   unfoldable pub nextBound : A .F → A .F
   nextBound x = cond (A .lt (A .boundLeast) x) (cond (A .lt x (A .boundMost)) x (A .boundMost)) (A .boundLeast)
@@ -145,6 +149,15 @@ module _ (A : Arith) where
 
     unfoldable pub solved : Solving
     solved = roundsFrom (params .rounds) 0 begun
+
+    -- ---- the record of a run: round r's k + 1 numbers, from round 0 on
+    -- the bound that the round's filter used, then all its Ritz values in the Ritz order
+    unfoldable pub roundRecord : ℕ → Solving → ℕ → A .F
+    roundRecord round s zero = s .bound
+    roundRecord round s (suc j) = fallingValue (width d) (ritzValue (roundEigen (roundBasis round s .block) .matrix)) j
+
+    unfoldable pub recordAt : ℕ → ℕ → A .F
+    recordAt round j = roundRecord round (roundsFrom round 0 begun) j
 
   -- the basis turned onto the Ritz vectors
   unfoldable pub rotated : ℕ → Block A → Matrix A → List ℕ → Block A

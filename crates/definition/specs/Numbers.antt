@@ -58,13 +58,14 @@ pub record Params : Type 0 where
 abbrev pub defaults : Params
 defaults = record { rounds = defaultRounds; degree = defaultDegree; seedStd = defaultSeedStd }
 
--- Lent memory, in order 0 to 9: inverse weights; v0; edge columns and edge weights, for m entries; three blocks; partials; marks; output
-unfoldable pub lentSizes : ℕ → ℕ → ℕ → List ℕ
-lentSizes d n m =
-    n ∷ n ∷ m ∷ m ∷ n * width d ∷ n * width d ∷ n * width d ∷ chunks n * width d * width d ∷ chunks n ∷ n * d ∷ []
+-- Lent memory, in order 0 to 10: inverse weights; v0; edge columns and edge weights, for m entries; three blocks; partials; marks; output;
+-- the Ritz record, k + 1 numbers for each round
+unfoldable pub lentSizes : ℕ → ℕ → ℕ → ℕ → List ℕ
+lentSizes d rounds n m =
+    n ∷ n ∷ m ∷ m ∷ n * width d ∷ n * width d ∷ n * width d ∷ chunks n * width d * width d ∷ chunks n ∷ n * d ∷ rounds * (width d + 1) ∷ []
 
 abbrev pub lentCount : ℕ
-lentCount = 10
+lentCount = 11
 
-abbrev pub lentSize : ℕ → ℕ → ℕ → ℕ → ℕ
-lentSize d n m j = getD (lentSizes d n m) j 0
+abbrev pub lentSize : ℕ → ℕ → ℕ → ℕ → ℕ → ℕ
+lentSize d rounds n m j = getD (lentSizes d rounds n m) j 0

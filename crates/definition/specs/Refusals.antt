@@ -85,8 +85,8 @@ unfoldable pub testSeedStd : Float → Verdict
 testSeedStd seedStd = given (not (lt (ofBits binary64 0) seedStd && isFinite seedStd)) 10 0
 
 -- 11: lent memory too short, at the first short one; lent j is the length of lent memory j
-unfoldable pub testLent : ℕ → ℕ → ℕ → (ℕ → ℕ) → Verdict
-testLent d n m lent = givenFirst (λ j. ltb (lent j) (lentSize d n m j)) 0 lentCount 11
+unfoldable pub testLent : ℕ → ℕ → ℕ → ℕ → (ℕ → ℕ) → Verdict
+testLent d rounds n m lent = givenFirst (λ j. ltb (lent j) (lentSize d rounds n m j)) 0 lentCount 11
 
 -- the parameters' tests, 8 to 10
 unfoldable pub testParams : Params → Verdict
@@ -106,7 +106,7 @@ unfoldable pub testRequest : (A : Arith) → ℕ → Params → List ℕ → Lis
 testRequest A d p starts columns values lent =
     orElse (testDims d)
     (orElse (testGraph A starts columns values)
-    (orElse (testParams p) (testLent d (length starts - 1) (length columns) lent)))
+    (orElse (testParams p) (testLent d (p .rounds) (length starts - 1) (length columns) lent)))
 
 -- the setters: the new parameters, or 8, 9 or 10 with the old ones
 abbrev pub passes : Verdict → Bool

@@ -9,7 +9,7 @@ use Rattle.definition.specs.Numbers.{Params, width}
 use Rattle.definition.specs.ChunkedColumnReduce.{Vector, Block, sumUp, chunkedSum, square}
 use Rattle.definition.specs.MatvecCombine.{Operator}
 use Rattle.definition.specs.Arrange.{arrangedBy}
-use Rattle.definition.specs.ChebyshevRayleighRitz.{Solving, solved, rotated}
+use Rattle.definition.specs.ChebyshevRayleighRitz.{Solving, solved, recordAt, rotated}
 
 -- what a whole run counts: passes closed; columns refreshed and zeroed over all rounds; rows with no entries
 pub record Counts : Type 0 where
@@ -128,6 +128,10 @@ module _ (A : Arith) where
   module _ (d : ℕ) (params : Params) (g : Graph) where
     unfoldable pub solution : Solving A
     solution = solved A d params (g .rows) (operator g) (v0 g)
+
+    -- what the run record says of round r: the bound at place 0, the Ritz values behind it
+    unfoldable pub ritzRecord : ℕ → ℕ → A .F
+    ritzRecord r j = recordAt A d params (g .rows) (operator g) (v0 g) r j
 
     unfoldable pub eigenmap : Block A
     eigenmap = unscaled (inverseOfRow g) (rotated A (width d) (solution .basis .block) (solution .vectors) (solution .order))

@@ -17,7 +17,7 @@ use Rattle.guard.specs.Rows.{otherLengths}
 abbrev long : ℕ → List Float
 long n = replicate n nan
 
--- memory of the eight lengths
+-- memory of the nine lengths
 abbrev lentOf : List ℕ → List ℕ → Lent ieee64
 lentOf edges l = record {
   inverse = long (getD l 0 0);
@@ -29,10 +29,11 @@ lentOf edges l = record {
   block2 = long (getD l 5 0);
   partials = long (getD l 6 0);
   output = long (getD l 7 0);
+  ritzRecord = long (getD l 8 0);
 }
 
-has-lengths : (edges l : List ℕ) → length l ≡ 8 → otherLengths (lentOf edges l) ≡ l
-has-lengths edges (a ∷ b ∷ c ∷ d ∷ e ∷ f ∷ g ∷ h ∷ []) q = simp length-replicate
+has-lengths : (edges l : List ℕ) → length l ≡ 9 → otherLengths (lentOf edges l) ≡ l
+has-lengths edges (a ∷ b ∷ c ∷ d ∷ e ∷ f ∷ g ∷ h ∷ i ∷ []) q = simp length-replicate
 has-lengths edges [] q = absurd (omega arith)
 has-lengths edges (a ∷ []) q = absurd (omega arith)
 has-lengths edges (a ∷ b ∷ []) q = absurd (omega arith)
@@ -41,10 +42,11 @@ has-lengths edges (a ∷ b ∷ c ∷ d ∷ []) q = absurd (omega arith)
 has-lengths edges (a ∷ b ∷ c ∷ d ∷ e ∷ []) q = absurd (omega arith)
 has-lengths edges (a ∷ b ∷ c ∷ d ∷ e ∷ f ∷ []) q = absurd (omega arith)
 has-lengths edges (a ∷ b ∷ c ∷ d ∷ e ∷ f ∷ g ∷ []) q = absurd (omega arith)
-has-lengths edges (a ∷ b ∷ c ∷ d ∷ e ∷ f ∷ g ∷ h ∷ i ∷ l) q = absurd (omega arith)
+has-lengths edges (a ∷ b ∷ c ∷ d ∷ e ∷ f ∷ g ∷ h ∷ []) q = absurd (omega arith)
+has-lengths edges (a ∷ b ∷ c ∷ d ∷ e ∷ f ∷ g ∷ h ∷ i ∷ j ∷ l) q = absurd (omega arith)
 
 -- `test` is the machine's test as a function of the lent memory
-pub test-once : (edges l : List ℕ) → length l ≡ 8 → (test : Lent ieee64 → definition.Verdict) (r s : Verdict)
+pub test-once : (edges l : List ℕ) → length l ≡ 9 → (test : Lent ieee64 → definition.Verdict) (r s : Verdict)
     → ((m : Lent ieee64) → m .edgeColumns ≡ edges → otherLengths m ≡ l → verdictOf r ≡ test m)
     → ((m : Lent ieee64) → m .edgeColumns ≡ edges → otherLengths m ≡ l → verdictOf s ≡ test m) → r ≡ s
 test-once edges l q test r s p o =

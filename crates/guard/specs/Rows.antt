@@ -38,15 +38,16 @@ ownTest st a starts columns edgeColumns marks h =
 
 -- the machine's `listsSound`, whose lent lists have these lengths
 unfoldable pub listsTest : Asked → Lists ieee64 → List ℕ → Bool
-listsTest a g lengths = listsEnough ieee64 a g && passes (testLent (a .dims) (a .rows) (a .entries) (wholesOf lengths))
+listsTest a g lengths = listsEnough ieee64 a g && passes (testLent (a .dims) (a .rounds) (a .rows) (a .entries) (wholesOf lengths))
 
 -- the lengths of the lent lists that a test does not get: all but the edge columns and the marks, in document 01's order
 abbrev pub otherLengths : Lent ieee64 → List ℕ
 otherLengths m =
     length (m .inverse) ∷ length (m .v0) ∷ length (m .edgeWeights) ∷ length (m .block0) ∷ length (m .block1) ∷ length (m .block2)
-    ∷ length (m .partials) ∷ length (m .output) ∷ []
+    ∷ length (m .partials) ∷ length (m .output) ∷ length (m .ritzRecord) ∷ []
 
--- the lengths of lent memory 0 to 9, from those and the two lists' own
+-- the lengths of lent memory 0 to 10, from those and the two lists' own
 abbrev pub ownLengths : List ℕ → ℕ → ℕ → List ℕ
 ownLengths l edgeColumns marks =
-    getD l 0 0 ∷ getD l 1 0 ∷ edgeColumns ∷ getD l 2 0 ∷ getD l 3 0 ∷ getD l 4 0 ∷ getD l 5 0 ∷ getD l 6 0 ∷ marks ∷ getD l 7 0 ∷ []
+    getD l 0 0 ∷ getD l 1 0 ∷ edgeColumns ∷ getD l 2 0 ∷ getD l 3 0 ∷ getD l 4 0 ∷ getD l 5 0 ∷ getD l 6 0 ∷ marks ∷ getD l 7 0
+    ∷ getD l 8 0 ∷ []

@@ -95,8 +95,8 @@ fn lists_enough(a: Asked, starts: &[u64], columns: &[u32], values: &[f64]) -> bo
     a.rows < starts.len() && (a.entries <= columns.len() && a.entries <= values.len())
 }
 
-// The lengths of lent memory 0 to 9, from those of the lists that a test does not get, and those of the two that it gets.
-pub fn own_lengths(lengths: [usize; 8], edge_columns: usize, marks: usize) -> [usize; 10]
+// The lengths of lent memory 0 to 10, from those of the lists that a test does not get, and those of the two that it gets.
+pub fn own_lengths(lengths: [usize; 9], edge_columns: usize, marks: usize) -> [usize; 11]
     ensures { λ r. ⌜ r ≡ ownLengths lengths «edge_columns» marks ⌝ }
 {
     [
@@ -110,6 +110,7 @@ pub fn own_lengths(lengths: [usize; 8], edge_columns: usize, marks: usize) -> [u
         lengths[6],
         marks,
         lengths[7],
+        lengths[8],
     ]
 }
 
@@ -118,11 +119,11 @@ pub fn lists_sound(
     starts: &[u64],
     columns: &[u32],
     values: &[f64],
-    lengths: [usize; 10],
+    lengths: [usize; 11],
 ) -> bool
     requires { ⌜ AskedReady (askedIn a) ⌝ }
     ensures { λ r. ⌜ r ≡ listsTest (askedIn a) (listsIn (now (starts .entry)) (now (columns .entry)) (now (values .entry))) lengths ⌝ }
 {
-    let lent = input::test_lent(a.dims, a.rows, a.entries, lengths);
+    let lent = input::test_lent(a.dims, a.rounds, a.rows, a.entries, lengths);
     lists_enough(a, starts, columns, values) && lent.number == 0
 }

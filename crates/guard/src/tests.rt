@@ -66,7 +66,7 @@ pub fn test_chunk(
     values: &[f64],
     edge_columns: &[u32],
     marks: &[u8],
-    lengths: [usize; 8],
+    lengths: [usize; 9],
 ) -> Verdict
     ensures { λ r. ⌜ ((m : Lent ieee64) → m .edgeColumns ≡ now («edge_columns» .entry) → otherLengths m ≡ lengths → verdictOf r ≡ testChunk ieee64 (stateIn state) number (listsIn (now (starts .entry)) (now (columns .entry)) (now (values .entry))) m (now (marks .entry))) ⌝ }
 {
@@ -99,7 +99,7 @@ pub fn test_close(
     values: &[f64],
     edge_columns: &[u32],
     marks: &[u8],
-    lengths: [usize; 8],
+    lengths: [usize; 9],
 ) -> Verdict
     ensures { λ r. ⌜ ((m : Lent ieee64) → m .edgeColumns ≡ now («edge_columns» .entry) → otherLengths m ≡ lengths → verdictOf r ≡ testClose ieee64 (stateIn state) (listsIn (now (starts .entry)) (now (columns .entry)) (now (values .entry))) m (now (marks .entry))) ⌝ }
 {

@@ -9,6 +9,7 @@ use crate::lists::EdgeWeights;
 use crate::lists::Marks;
 use crate::lists::Output;
 use crate::lists::Partials;
+use crate::lists::RitzRecord;
 use crate::lists::Rows;
 use crate::lists::Sizes;
 use crate::lists::Starts;
@@ -147,7 +148,8 @@ pub fn judged(run: Run, seen: Seen) -> Run {
 
 // ---- one call
 
-// What is called: nothing, a chunk by its number, closing, or opening; with what state, what is asked, and how much of the graph is lent.
+// What is called: nothing, a chunk by its number, closing, or opening; with what state, what is asked, and how much of the graph and the Ritz
+// record is lent.
 pub struct Asking {
     pub kind: u64,
     pub number: usize,
@@ -157,6 +159,7 @@ pub struct Asking {
     pub degree: u64,
     pub starts: usize,
     pub entries: usize,
+    pub record: usize,
 }
 
 // A chunk of the stage at hand.
@@ -175,11 +178,13 @@ fn chunk_answered(
     partials: &mut Partials,
     marks: &mut Marks,
     output: &mut Output,
+    ritz_record: &RitzRecord,
 ) -> Answer {
     let given = asking.given;
     let s = lists::front_starts(starts, asking.starts);
     let c = lists::front_columns(columns, asking.entries);
     let v = lists::front_floats(values, asking.entries);
+    let r = lists::front_floats(ritz_record, asking.record);
     run::chunk(
         given,
         asking.number,
@@ -196,10 +201,11 @@ fn chunk_answered(
         partials,
         marks,
         output,
+        r,
     )
 }
 
-// Closing, or opening: the lists are read, and the marks alone are written.
+// Closing, or opening: the lists are read, and the marks alone are written, and the Ritz record where a round ends.
 fn reading_answered(
     asking: Asking,
     starts: &Starts,
@@ -215,11 +221,13 @@ fn reading_answered(
     partials: &Partials,
     marks: &mut Marks,
     output: &Output,
+    ritz_record: &mut [f64],
 ) -> Answer {
     let given = asking.given;
     let s = lists::front_starts(starts, asking.starts);
     let c = lists::front_columns(columns, asking.entries);
     let v = lists::front_floats(values, asking.entries);
+    let room = lists::at_most(asking.record, ritz_record.len());
     if asking.kind == plan::CLOSING {
         return run::close(
             given,
@@ -236,6 +244,7 @@ fn reading_answered(
             partials,
             marks,
             output,
+            &mut ritz_record[..room],
         );
     }
     let params = SpectralParams {
@@ -259,6 +268,7 @@ fn reading_answered(
         partials,
         marks,
         output,
+        &ritz_record[..room],
     )
 }
 
@@ -279,6 +289,7 @@ pub fn answered(
     partials: &mut Partials,
     marks: &mut Marks,
     output: &mut Output,
+    ritz_record: &mut RitzRecord,
 ) -> Answer {
     if asking.kind == plan::NO_CALL {
         return last;
@@ -299,6 +310,7 @@ pub fn answered(
             partials,
             marks,
             output,
+            ritz_record,
         );
     }
     reading_answered(
@@ -316,5 +328,6 @@ pub fn answered(
         partials,
         marks,
         output,
+        ritz_record,
     )
 }

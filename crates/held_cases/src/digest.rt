@@ -46,8 +46,8 @@ fn of_numbers(seed: &[f64]) -> u64 {
     d
 }
 
-// A seed stands at the front of its list.
-pub fn of_seed(list: &[f64], count: usize) -> u64 {
+// A seed stands at the front of its list, and so do the numbers of a record's finished rounds.
+pub fn of_front(list: &[f64], count: usize) -> u64 {
     of_numbers(lists::front_floats(list, count))
 }
 

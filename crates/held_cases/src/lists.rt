@@ -1,8 +1,10 @@
 // The lists, and what is done to one of them. Nothing here asks for lengths: what does not fit is left out, and a digest shows it.
+ghost use Prim.Native.Nat.{_≤_};
 use crate::plan;
 
-// ---- the lists: the graph's three, then the lent ten in document 01's order. They have room for 9,000 rows, eight entries to a row and two
-// dimensions, and for what a run must leave alone behind its own numbers. Partials and marks have room for two runs.
+// ---- the lists: the graph's three, then the lent eleven in their order. They have room for 9,000 rows, eight entries to a row, two
+// dimensions and two rounds, and for what a run must leave alone behind its own numbers. Partials, marks and the Ritz record have room
+// for two runs.
 pub const STARTS_MOST: usize = 9001;
 
 pub const ENTRIES_MOST: usize = 72000;
@@ -27,6 +29,8 @@ pub type Marks = [u8; 12];
 
 pub type Output = [f64; 18003];
 
+pub type RitzRecord = [f64; 50];
+
 // How many numbers of each lent list are meant: the list of a row's numbers, of an entry's, and so on.
 pub struct Sizes {
     pub rows: usize,
@@ -35,6 +39,7 @@ pub struct Sizes {
     pub partials: usize,
     pub marks: usize,
     pub output: usize,
+    pub record: usize,
 }
 
 // Whole lists.
@@ -47,6 +52,7 @@ pub fn all() -> Sizes {
         partials: most,
         marks: most,
         output: most,
+        record: most,
     }
 }
 
@@ -78,6 +84,13 @@ pub fn front_floats<'a>(list: &'a [f64], count: usize) -> &'a [f64] {
         return list;
     }
     &list[..count]
+}
+
+// No more than a list has: a front that a call writes is lent where the call is made.
+pub fn at_most(count: usize, length: usize) -> usize
+    ensures { λ r. ⌜ r ≤ length ⌝ }
+{
+    if count < length { count } else { length }
 }
 
 // ---- fills

@@ -21,6 +21,10 @@ pub const EDGE: u64 = 2;
 
 pub const STARTS: u64 = 3;
 
+pub const SHORT_RECORD: u64 = 4;
+
+pub const NO_RECORD: u64 = 5;
+
 // What is called.
 pub const NO_CALL: u64 = 0;
 
@@ -72,6 +76,14 @@ pub fn raised(x: u64) -> u64 {
 
 pub fn next(x: usize) -> usize {
     if x < 0x1_0000_0000 { x + 1 } else { x }
+}
+
+pub fn times(x: usize, y: usize) -> usize {
+    numbers::wrapping_mul(x as u64, y as u64) as usize
+}
+
+pub fn raised_where(is_meant: bool, x: u64) -> u64 {
+    if is_meant { raised(x) } else { x }
 }
 
 fn mixed(x: u64) -> u64 {
@@ -237,6 +249,16 @@ fn bad_edge(entries: usize, stage: usize) -> Call {
     }
 }
 
+// The Ritz record one number too short, and empty.
+fn short_record(by: u64) -> Call {
+    match by % 4 {
+        0 => spoiled(chunk_call(0, 16, 0), SHORT_RECORD),
+        1 => spoiled(chunk_call(0, 16, 0), NO_RECORD),
+        2 => spoiled(close_call(16, 0), SHORT_RECORD),
+        _ => spoiled(close_call(16, 0), NO_RECORD),
+    }
+}
+
 // Calls that an open run must refuse, by a number.
 fn offered(w: Walk, turn: usize, by: u64, entries: usize, stage: usize) -> Call {
     let kind = by / 16 % crate::damage::KINDS + 1;
@@ -255,7 +277,7 @@ fn offered(w: Walk, turn: usize, by: u64, entries: usize, stage: usize) -> Call 
         12 => bad_edge(entries, stage),
         13 => spoiled(chunk_call(chunks, 16, 0), STARTS),
         14 => spoiled(close_call(16, 0), STARTS),
-        _ => no_call(),
+        _ => short_record(by / 16),
     }
 }
 
@@ -383,10 +405,6 @@ pub fn after_close(w: Walk) -> Walk {
     v.done = 0;
     v.accepted = raised(w.accepted);
     v
-}
-
-fn raised_where(is_meant: bool, x: u64) -> u64 {
-    if is_meant { raised(x) } else { x }
 }
 
 pub fn judged(w: Walk, is_wrong: bool) -> Walk {

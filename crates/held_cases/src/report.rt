@@ -7,7 +7,7 @@ use input::SpectralParams;
 use libc::STDOUT_FILENO;
 
 // The upward run of the case at hand, the differences in it so far, its refused calls; and over all cases the runs, the differences,
-// the accepted calls and the refused ones by number.
+// the accepted calls, the refused ones by number, and the looks at the Ritz record with those that were right.
 pub struct Tally {
     pub upward: End,
     pub differences_here: u64,
@@ -16,6 +16,8 @@ pub struct Tally {
     pub differences: u64,
     pub accepted: u64,
     pub refused: Refused,
+    pub looks: u64,
+    pub right: u64,
 }
 
 fn none_refused() -> Refused {
@@ -40,6 +42,8 @@ pub fn nothing() -> Tally {
         accepted: 0,
         refused,
         wrong: 0,
+        looks: 0,
+        right: 0,
     };
     Tally {
         upward,
@@ -49,6 +53,8 @@ pub fn nothing() -> Tally {
         differences: 0,
         accepted: 0,
         refused,
+        looks: 0,
+        right: 0,
     }
 }
 
@@ -88,7 +94,8 @@ fn unequal(x: u64, y: u64) -> u64 {
     if x == y { 0 } else { 1 }
 }
 
-// How many of a run's numbers are not what they must be: the oracle's digest and counts, the calls, and the upward run's lists and state.
+// How many of a run's numbers are not what they must be: the oracle's digest and counts, the calls, the upward run's lists and state, and
+// the looks that were right, one after the opening and one after each call.
 fn differences_of(case: Case, upward: End, end: End) -> u64 {
     let passes = product(case.rounds, sum(case.degree, 1));
     let a = sum(
@@ -100,7 +107,8 @@ fn differences_of(case: Case, upward: End, end: End) -> u64 {
     let d = sum(c, unequal(end.isolated, case.isolated));
     let e = sum(d, unequal(end.accepted, owed_calls(case, end.refreshed)));
     let f = sum(e, unequal(end.all, upward.all));
-    sum(f, end.wrong)
+    let g = sum(f, unequal(end.right, sum(end.accepted, 1)));
+    sum(g, end.wrong)
 }
 
 // ---- printing
@@ -172,6 +180,8 @@ pub fn print_all(t: Tally) {
     print_number(b"runs=", t.runs);
     print_number(b" calls=", t.accepted);
     print_refused(refused);
+    print_number(b" looks=", t.looks);
+    print_number(b" right=", t.right);
     print_number(b" differences=", t.differences);
     io::write_all(STDOUT_FILENO, b"\n");
 }
@@ -202,6 +212,8 @@ fn with_run(t: Tally, case: Case, end: End) -> Tally {
     u.runs = sum(t.runs, 1);
     u.accepted = sum(t.accepted, end.accepted);
     u.refused = sum_refused(before, refused);
+    u.looks = sum(t.looks, end.looks);
+    u.right = sum(t.right, end.right);
     u
 }
 

@@ -7,6 +7,7 @@ use crate::lists::EdgeWeights;
 use crate::lists::Marks;
 use crate::lists::Output;
 use crate::lists::Partials;
+use crate::lists::RitzRecord;
 use crate::lists::Rows;
 use crate::lists::Sizes;
 
@@ -20,8 +21,11 @@ pub const CHANGED: u64 = 2;
 
 pub const COMPARED: u64 = 3;
 
-// What is done, to how much of each list; what is mended before it and what is spoiled after it, with the place of the mark; and how many
-// numbers of the output are the seed.
+// What lists of floats are filled with.
+const LENT: f64 = 5.0;
+
+// What is done, to how much of each list; what is mended before it and what is spoiled after it, with the place of the mark; how many
+// numbers of the output are the seed; and how many of the Ritz record are of rounds that had finished at the look before, and have now.
 pub struct Tend {
     pub what: u64,
     pub sizes: Sizes,
@@ -29,12 +33,24 @@ pub struct Tend {
     pub spoiled: u64,
     pub mark: usize,
     pub seed: usize,
+    pub kept: usize,
+    pub finished: usize,
 }
 
-// The digest of the lists, and the oracle's of the seed.
+// A look at the Ritz record: how many numbers are of finished rounds, the digest of those that were before and of those that are now, and
+// whether they, and no others, are written.
+pub struct Look {
+    pub count: usize,
+    pub kept: u64,
+    pub finished: u64,
+    pub is_so_far: bool,
+}
+
+// The digest of the lists, the oracle's of the seed, and the look.
 pub struct Found {
     pub lists: u64,
     pub seed: u64,
+    pub look: Look,
 }
 
 // ---- one list
@@ -44,7 +60,7 @@ fn floats(list: &mut [f64], what: u64, count: usize, digest: u64) -> u64 {
         return digest;
     }
     if what == FILLED {
-        lists::fill_floats(list, 5.0);
+        lists::fill_floats(list, LENT);
         return digest;
     }
     let d = digest::with_floats(digest, lists::front_floats(list, count));
@@ -100,7 +116,35 @@ fn all_marks(list: &mut [u8], t: Tend, digest: u64) -> u64 {
     d
 }
 
-// ---- the ten, in document 01's order
+// ---- the Ritz record
+
+fn is_lent(x: f64) -> bool {
+    x == LENT
+}
+
+// Every number of the first `finished` is written, and none behind them. A run does not write the number that lists are filled with: a
+// bound is below 1, and no Ritz value of these graphs is far above it.
+fn is_so_far(list: &[f64], finished: usize) -> bool {
+    let mut i = 0;
+    while i < list.len() {
+        if is_lent(list[i]) == (i < finished) {
+            return false;
+        }
+        i += 1;
+    }
+    true
+}
+
+fn looked(list: &[f64], t: Tend) -> Look {
+    Look {
+        count: t.finished,
+        kept: digest::of_front(list, t.kept),
+        finished: digest::of_front(list, t.finished),
+        is_so_far: is_so_far(list, t.finished),
+    }
+}
+
+// ---- the eleven, in their order
 
 pub fn tended(
     t: Tend,
@@ -114,6 +158,7 @@ pub fn tended(
     partials: &mut Partials,
     marks: &mut Marks,
     output: &mut Output,
+    ritz_record: &mut RitzRecord,
 ) -> Found {
     let what = t.what;
     let sizes = t.sizes;
@@ -126,7 +171,9 @@ pub fn tended(
     let d6 = floats(block2, what, sizes.block, d5);
     let d7 = floats(partials, what, sizes.partials, d6);
     let d8 = all_marks(marks, t, d7);
-    let seed = digest::of_seed(output, t.seed);
-    let lists = floats(output, what, sizes.output, d8);
-    Found { lists, seed }
+    let seed = digest::of_front(output, t.seed);
+    let d9 = floats(output, what, sizes.output, d8);
+    let look = looked(ritz_record, t);
+    let lists = floats(ritz_record, what, sizes.record, d9);
+    Found { lists, seed, look }
 }

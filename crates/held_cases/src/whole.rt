@@ -12,12 +12,14 @@ use crate::lists;
 use crate::lists::Sizes;
 use crate::plan;
 use crate::plan::Call;
+use crate::plan::times;
+use crate::record;
+use crate::record::Looks;
 use crate::report;
 use crate::report::Tally;
 use crate::tend;
 use crate::tend::Found;
 use crate::tend::Tend;
-use input::SpectralParams;
 use input::Verdict;
 use state::Answer;
 use state::Asked;
@@ -25,7 +27,8 @@ use state::Counts;
 use state::Progress;
 use state::State;
 
-// What a run comes to: the oracle's digest of the seed, a digest of the state and all lists, and what was counted.
+// What a run comes to: the oracle's digest of the seed, a digest of the state and all lists, and what was counted: calls, and looks at the
+// Ritz record with those that were right.
 pub struct End {
     pub digest: u64,
     pub all: u64,
@@ -36,11 +39,15 @@ pub struct End {
     pub accepted: u64,
     pub refused: plan::Refused,
     pub wrong: u64,
+    pub looks: u64,
+    pub right: u64,
 }
 
 // What the turns of a run are for, by number: 0 its graph; 1 an opening that must be refused; 2 the opening; 3 a call; 4 what is looked at
 // after it; 5 the lists leaving their places, and 6 coming back; 7 what the run comes to.
 const GRAPH: u64 = 0;
+
+const REFUSED: u64 = 1;
 
 const OPENING: u64 = 2;
 
@@ -53,7 +60,7 @@ const LEAVING: u64 = 5;
 const END: u64 = 7;
 
 // Where the program is: what was counted; the run by its number; what the next turn is for; the run's steps so far, the entries of its
-// graph, a digest of its lists to compare with, and the run itself.
+// graph, a digest of its lists to compare with, the looks at its record, and the run itself.
 pub struct Book {
     pub tally: Tally,
     pub number: usize,
@@ -61,6 +68,7 @@ pub struct Book {
     pub steps: usize,
     pub entries: usize,
     pub before: u64,
+    pub looks: Looks,
     pub run: Run,
 }
 
@@ -83,10 +91,6 @@ const WHOLE: usize = 0xffff_ffff_ffff_ffff;
 
 // ---- the run at hand
 
-fn times(x: usize, y: usize) -> usize {
-    numbers::wrapping_mul(x as u64, y as u64) as usize
-}
-
 fn and_behind(x: usize) -> usize {
     std::num::wrapping_add_usize(x, BEHIND)
 }
@@ -102,8 +106,7 @@ fn order_of(book: Book) -> usize {
 // How much of the lists a run is compared by while it goes on.
 fn sizes_of(case: Case, entries: usize) -> Sizes {
     let rows = case.rows;
-    let dims = case.dims as usize;
-    let wide = std::num::wrapping_add_usize(dims, SpectralParams::OVERSAMPLING);
+    let wide = record::wide(case);
     let chunks = input::chunk_count(rows);
     Sizes {
         rows: and_behind(rows),
@@ -111,8 +114,14 @@ fn sizes_of(case: Case, entries: usize) -> Sizes {
         block: and_behind(times(rows, wide)),
         partials: and_behind(times(chunks, times(wide, wide))),
         marks: and_behind(chunks),
-        output: and_behind(times(rows, dims)),
+        output: and_behind(times(rows, case.dims as usize)),
+        record: and_behind(record::needed(case)),
     }
+}
+
+// A run of two rounds is in its second one by then, so that the Ritz record has numbers that leave.
+fn late_steps(rounds: u64) -> usize {
+    if rounds == 1 { 388 } else { 1780 }
 }
 
 // After how many steps a run stops and goes on: between a chunk and the next one of its stage, or closing; 0 where a list has no room for
@@ -123,7 +132,7 @@ fn steps_first(case: Case, order: usize) -> usize {
     }
     match order {
         2 => 196,
-        3 => 388,
+        3 => late_steps(case.rounds),
         _ => 0,
     }
 }
@@ -191,6 +200,7 @@ pub fn begun() -> Book {
         walk,
     };
     let tally = report::nothing();
+    let looks = record::no_looks();
     Book {
         tally,
         number: 0,
@@ -198,6 +208,7 @@ pub fn begun() -> Book {
         steps: 0,
         entries: 0,
         before: 0,
+        looks,
         run,
     }
 }
@@ -235,8 +246,18 @@ fn seed_size(phase: u64, case: Case) -> usize {
     0
 }
 
+// The numbers of finished rounds, by the state.
+fn finished_now(book: Book, case: Case) -> usize {
+    let run = book.run;
+    let state = run.state;
+    let progress = state.progress;
+    record::finished(case, progress.stage, progress.round)
+}
+
 // What a call is to find spoiled is spoiled before it, and mended after it.
-fn tend_of(phase: u64, own: Sizes, case: Case, call: Call) -> Tend {
+fn tend_of(book: Book, own: Sizes, case: Case, call: Call) -> Tend {
+    let phase = book.phase;
+    let looks = book.looks;
     let sizes = compared_sizes(phase, own);
     Tend {
         what: done_to_lists(phase, call.watched),
@@ -245,6 +266,8 @@ fn tend_of(phase: u64, own: Sizes, case: Case, call: Call) -> Tend {
         spoiled: only(phase == CALL, call.spoiled),
         mark: call.number,
         seed: seed_size(phase, case),
+        kept: looks.kept,
+        finished: finished_now(book, case),
     }
 }
 
@@ -274,20 +297,59 @@ fn lent_entries(phase: u64, entries: usize) -> usize {
     WHOLE
 }
 
-// The opening that must be refused asks for D = 0.
+// What the Ritz record lacks: in the opening that must be refused, in the last two orders; and where a call is to find it so.
+fn lack_of_record(phase: u64, order: usize, spoiled: u64) -> u64 {
+    if phase == CALL {
+        return spoiled;
+    }
+    if phase != REFUSED {
+        return 0;
+    }
+    match order {
+        2 => plan::SHORT_RECORD,
+        3 => plan::NO_RECORD,
+        _ => 0,
+    }
+}
+
+// As many numbers of the record as a call is lent: the whole list, in the second order no more than are needed, or too few.
+fn lent_record(order: usize, lack: u64, needed: usize) -> usize {
+    if lack == plan::SHORT_RECORD {
+        return std::num::wrapping_sub_usize(needed, 1);
+    }
+    if lack == plan::NO_RECORD {
+        return 0;
+    }
+    if order == 1 {
+        return needed;
+    }
+    WHOLE
+}
+
+// The opening that must be refused asks for D = 0, but where it lends too short a record.
+fn asked_dims(phase: u64, lack: u64, dims: u64) -> u64 {
+    if phase != REFUSED {
+        return dims;
+    }
+    only(lack != 0, dims)
+}
+
 fn asking_of(book: Book, case: Case, call: Call) -> Asking {
     let phase = book.phase;
+    let order = order_of(book);
     let run = book.run;
     let given = calls::given_state(run, call.given);
+    let lack = lack_of_record(phase, order, call.spoiled);
     Asking {
         kind: called_kind(phase, call.kind),
         number: call.number,
         given,
-        dims: only(phase == OPENING, case.dims),
+        dims: asked_dims(phase, lack, case.dims),
         rounds: case.rounds,
         degree: case.degree,
         starts: lent_starts(phase, case.rows, call.spoiled),
         entries: lent_entries(phase, book.entries),
+        record: lent_record(order, lack, record::needed(case)),
     }
 }
 
@@ -296,7 +358,7 @@ pub fn turn_of(book: Book) -> Turn {
     let own = run.sizes;
     let case = case_of(book);
     let call = calls::planned(run);
-    let tend = tend_of(book.phase, own, case, call);
+    let tend = tend_of(book, own, case, call);
     let asking = asking_of(book, case, call);
     Turn {
         is_new: book.phase == GRAPH,
@@ -309,14 +371,22 @@ pub fn turn_of(book: Book) -> Turn {
 
 // ---- what is known after a turn
 
-fn is_verdict(verdict: Verdict, number: u64) -> bool {
+fn is_verdict(verdict: Verdict, number: u64, place: u64) -> bool {
     if verdict.number != number {
         return false;
     }
-    verdict.place == 0
+    verdict.place == place
 }
 
-// An opening that asks for D = 0 must meet 1 and answer the empty state.
+// An opening that asks for D = 0 must meet 1, and one whose record is too short 11 at 10.
+fn is_refused(verdict: Verdict, order: usize) -> bool {
+    if lack_of_record(REFUSED, order, 0) == 0 {
+        return is_verdict(verdict, 1, 0);
+    }
+    is_verdict(verdict, 11, 10)
+}
+
+// A refused opening answers the empty state.
 fn refused_run(book: Book, last: Answer) -> Run {
     let case = case_of(book);
     let sizes = sizes_of(case, book.entries);
@@ -329,7 +399,7 @@ fn refused_run(book: Book, last: Answer) -> Run {
         empty: state,
         walk,
     };
-    calls::marked(run, !is_verdict(verdict, 1))
+    calls::marked(run, !is_refused(verdict, order_of(book)))
 }
 
 // The opening must be accepted.
@@ -338,7 +408,7 @@ fn opened_run(run: Run, last: Answer) -> Run {
     let verdict = last.verdict;
     let mut next = run;
     next.state = state;
-    calls::marked(next, !is_verdict(verdict, 0))
+    calls::marked(next, !is_verdict(verdict, 0, 0))
 }
 
 fn judged_run(run: Run, is_kept: bool, last: Answer) -> Run {
@@ -349,16 +419,27 @@ fn judged_run(run: Run, is_kept: bool, last: Answer) -> Run {
     calls::judged(run, seen)
 }
 
-// While the lists were away, something else must have stood in their places.
+// While the lists were away, something else must have stood in their places, and in those of the Ritz record where a round has finished.
+fn has_stayed(book: Book, found: Found) -> bool {
+    let looks = book.looks;
+    let look = found.look;
+    if found.lists == book.before {
+        return true;
+    }
+    if looks.kept == 0 {
+        return false;
+    }
+    look.kept == looks.digest
+}
+
 fn run_after(book: Book, found: Found, last: Answer) -> Run {
     let phase = book.phase;
     let run = book.run;
-    let is_same = found.lists == book.before;
     match phase {
         1 => refused_run(book, last),
         2 => opened_run(run, last),
-        4 => judged_run(run, is_same, last),
-        6 => calls::marked(run, is_same),
+        4 => judged_run(run, found.lists == book.before, last),
+        6 => calls::marked(run, has_stayed(book, found)),
         _ => run,
     }
 }
@@ -392,7 +473,7 @@ fn phase_after(book: Book, run: Run, steps: usize) -> u64 {
     }
 }
 
-fn end_of(run: Run, found: Found) -> End {
+fn end_of(run: Run, looks: Looks, found: Found) -> End {
     let state = run.state;
     let walk = run.walk;
     let counts = state.counts;
@@ -407,14 +488,40 @@ fn end_of(run: Run, found: Found) -> End {
         accepted: walk.accepted,
         refused,
         wrong: walk.wrong,
+        looks: looks.made,
+        right: looks.right,
     }
+}
+
+// The Ritz record is looked at after the opening, and after each accepted call: before the call that comes next.
+fn looks_after(book: Book, found: Found) -> Looks {
+    let looks = book.looks;
+    let run = book.run;
+    let walk = run.walk;
+    let look = found.look;
+    if book.phase < CALL {
+        return record::no_looks();
+    }
+    if book.phase != CALL {
+        return looks;
+    }
+    if walk.accepted < looks.made {
+        return looks;
+    }
+    record::looked(looks, look)
 }
 
 fn tally_after(book: Book, found: Found) -> Tally {
     let tally = book.tally;
     let run = book.run;
+    let looks = book.looks;
     if book.phase == END {
-        return report::counted(tally, case_of(book), order_of(book), end_of(run, found));
+        return report::counted(
+            tally,
+            case_of(book),
+            order_of(book),
+            end_of(run, looks, found),
+        );
     }
     tally
 }
@@ -430,6 +537,7 @@ pub fn after(book: Book, entries: usize, found: Found, last: Answer) -> Book {
     let run = run_after(book, found, last);
     let tally = tally_after(book, found);
     let steps = steps_after(book.phase, book.steps);
+    let looks = looks_after(book, found);
     Book {
         tally,
         number: number_after(book.phase, book.number),
@@ -437,6 +545,7 @@ pub fn after(book: Book, entries: usize, found: Found, last: Answer) -> Book {
         steps,
         entries,
         before: found.lists,
+        looks,
         run,
     }
 }

@@ -118,7 +118,7 @@ module _ (A : Arith) (starts columns : List ℕ) (values : List (A .F)) where
       let second = both-pass _ _ (first .1) in
       let third = both-pass _ _ (second .1) in
       let dims = in-limits d dimsMost 0 (first .0) in
-      let size = lentSize d (length starts - 1) (length columns) in
+      let size = lentSize d (p .rounds) (length starts - 1) (length columns) in
       record {
         dims-least = dims .0;
         dims-most = dims .1;

@@ -7,7 +7,7 @@ use lib.Dec.{leb, ltb}
 use lib.Ieee.{Float, nan}
 use lib.ListN.{getD}
 use Rattle.definition.specs.Arith.{isFinite}
-use Rattle.definition.specs.Numbers.{Params, dimsMost, rowsMost, entriesMost}
+use Rattle.definition.specs.Numbers.{Params, dimsMost, rowsMost, entriesMost, roundsMost}
 use Rattle.definition.specs.Refusals as definition
 use Rattle.input.specs.declared.Verdict.{Verdict}
 use Rattle.input.specs.declared.SpectralParams.{SpectralParams}
@@ -35,7 +35,8 @@ abbrev pub short : (ℕ → ℕ) → (ℕ → ℕ) → ℕ → Bool
 short lent sizes j = ltb (lent j) (sizes j)
 
 -- what the tests before the last have shown, so that no size overflows
-pub record Allowed (d n m : ℕ) : Type 0 where
+pub record Allowed (d rounds n m : ℕ) : Type 0 where
   pub dims : d ≤ dimsMost
+  pub rounds-few : rounds ≤ roundsMost
   pub rows : n ≤ rowsMost
   pub entries : m ≤ entriesMost

@@ -34,4 +34,4 @@ module _ (A : Arith) where
     pub dims-most : d ≤ dimsMost
     pub graph : ValidGraph starts columns values
     pub params : ValidParams p
-    pub enough : (j : ℕ) → j < lentCount → lentSize d (length starts - 1) (length columns) j ≤ lent j
+    pub enough : (j : ℕ) → j < lentCount → lentSize d (p .rounds) (length starts - 1) (length columns) j ≤ lent j

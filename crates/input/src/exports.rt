@@ -8,10 +8,10 @@ ghost use Rattle.input.specs.Said.{verdictOf, paramsOf};
 use crate::SpectralParams;
 use crate::Verdict;
 
-// The lengths of the lent memory, 0 to 9: C hands over no array by value.
+// The lengths of the lent memory, 0 to 10: C hands over no array by value.
 #[repr(C)]
 pub struct Lent {
-    pub lengths: [usize; 10],
+    pub lengths: [usize; 11],
 }
 
 #[no_mangle]

@@ -137,25 +137,38 @@ pub fn test_seed_std(s: f64) -> Verdict
 }
 
 // How long each lent memory must be.
-pub fn lent_sizes(d: usize, n: usize, m: usize) -> [usize; 10]
-    requires { ⌜ Allowed d n m ⌝ }
-    ensures { λ r. ⌜ r ≡ lentSizes d n m ⌝ }
+pub fn lent_sizes(d: usize, rounds: usize, n: usize, m: usize) -> [usize; 11]
+    requires { ⌜ Allowed d rounds n m ⌝ }
+    ensures { λ r. ⌜ r ≡ lentSizes d rounds n m ⌝ }
 {
     let k = d + SpectralParams::OVERSAMPLING;
     let chunks = chunk_count(n);
     let block = n * k;
     let partials = chunks * k * k;
     let output = n * d;
-    [n, n, m, m, block, block, block, partials, chunks, output]
+    let ritz_record = rounds * (k + 1);
+    [
+        n,
+        n,
+        m,
+        m,
+        block,
+        block,
+        block,
+        partials,
+        chunks,
+        output,
+        ritz_record,
+    ]
 }
 
-pub fn test_lent(d: usize, n: usize, m: usize, lent: [usize; 10]) -> Verdict
-    requires { ⌜ Allowed d n m ⌝ }
-    ensures { λ r. ⌜ verdictOf r ≡ refusals.testLent d n m (wholesOf lent) ⌝ }
+pub fn test_lent(d: usize, rounds: usize, n: usize, m: usize, lent: [usize; 11]) -> Verdict
+    requires { ⌜ Allowed d rounds n m ⌝ }
+    ensures { λ r. ⌜ verdictOf r ≡ refusals.testLent d rounds n m (wholesOf lent) ⌝ }
 {
-    let sizes = lent_sizes(d, n, m);
+    let sizes = lent_sizes(d, rounds, n, m);
     let j = first_short(lent, sizes);
-    given(j < 10, 11, j)
+    given(j < 11, 11, j)
 }
 
 fn test_params(params: SpectralParams) -> Verdict
@@ -198,14 +211,14 @@ fn test_graph(starts: &[u64], columns: &[u32], values: &[f64]) -> Verdict
     test_values(values)
 }
 
-// What opening and the one call test; lent has the lengths of the lent memory, 0 to 9.
+// What opening and the one call test; lent has the lengths of the lent memory, 0 to 10.
 pub fn test_request(
     d: u64,
     params: SpectralParams,
     starts: &[u64],
     columns: &[u32],
     values: &[f64],
-    lent: [usize; 10],
+    lent: [usize; 11],
 ) -> Verdict
     ensures { λ r. ⌜ verdictOf r ≡ refusals.testRequest ieee64 d (paramsOf params) (now (starts .entry)) (now (columns .entry)) (now (values .entry)) (wholesOf lent) ⌝ }
 {
@@ -221,5 +234,11 @@ pub fn test_request(
     if set.number != 0 {
         return set;
     }
-    test_lent(d as usize, row_count(starts), columns.len(), lent)
+    test_lent(
+        d as usize,
+        params.rounds as usize,
+        row_count(starts),
+        columns.len(),
+        lent,
+    )
 }

@@ -58,12 +58,12 @@ pub fn first_unfinite(values: &[f64]) -> usize
     e
 }
 
-// The first lent memory that is shorter than its size, or 10.
-pub fn first_short(lent: [usize; 10], sizes: [usize; 10]) -> usize
-    ensures { λ r. ⌜ r ≡ firstFrom (short (wholesOf lent) (wholesOf sizes)) 0 10 ⌝ }
+// The first lent memory that is shorter than its size, or 11.
+pub fn first_short(lent: [usize; 11], sizes: [usize; 11]) -> usize
+    ensures { λ r. ⌜ r ≡ firstFrom (short (wholesOf lent) (wholesOf sizes)) 0 11 ⌝ }
 {
     let mut j = 0;
-    while j < 10 {
+    while j < 11 {
         if lent[j] < sizes[j] {
             return j;
         }

@@ -1,2 +1,3 @@
 -- Laws of the machine.
 pub mod Own
+pub mod Record

@@ -11,7 +11,7 @@ use Rattle.held.specs.Marks.{cleared}
 use Rattle.machine.specs.State.{chunkCount, Lists, State, Lent, lengthsOf, openedState, emptyState}
 use Rattle.machine.specs.Ranges.{testChunk, testClose}
 use Rattle.machine.specs.Work.{work}
-use Rattle.machine.specs.Closing.{closed}
+use Rattle.machine.specs.Closing.{closed, tidied}
 
 module _ (A : Arith) where
   -- the answer, and what the lent lists hold then
@@ -39,9 +39,9 @@ module _ (A : Arith) where
   unfoldable pub chunkCall : State A → ℕ → Lists A → Lent A → List ℕ → Outcome
   chunkCall s h g m marks = chunkBy (testChunk A s h g m marks) s h g m marks
 
-  -- closing writes only marks and state
+  -- closing writes only marks, state and, after the products, the round's places of the Ritz record
   abbrev pub closeBy : Verdict → State A → Lent A → List ℕ → Outcome
-  closeBy v s m marks = cond (passes v) (outcome accepted (closed A s m) m (cleared (chunkCount (s .asked)) marks)) (outcome v s m marks)
+  closeBy v s m marks = cond (passes v) (outcome accepted (closed A s m) (tidied A s m) (cleared (chunkCount (s .asked)) marks)) (outcome v s m marks)
 
   unfoldable pub closeCall : State A → Lists A → Lent A → List ℕ → Outcome
   closeCall s g m marks = closeBy (testClose A s g m marks) s m marks

@@ -1,9 +1,9 @@
--- What closing a stage does to the state: the serial part, and where the run goes on. Definitions only.
+-- What closing a stage does to the state: the serial part, and where the run goes on; and to the lent lists: the Ritz record. Definitions only.
 use mathlib.Core.Bool.{Bool, cond}
 use mathlib.Core.List.{List, _++_}
-use Prim.Native.Nat.{ℕ, _+_, _-_, _*_}
+use Prim.Native.Nat.{ℕ, zero, suc, _+_, _-_, _*_}
 use lib.Dec.{eqb, ltb}
-use lib.ListN.{replicate}
+use lib.ListN.{replicate, getD}
 use Rattle.definition.specs.Arith.{Arith}
 use Rattle.definition.specs.ChebyshevRayleighRitz.{firstAlpha, nextAlpha, ritzOrder, ritzValue, boundAfter}
 use Rattle.definition.specs.ChunkedColumnReduce.{sumUp}
@@ -11,7 +11,7 @@ use Rattle.definition.specs.JacobiEigen.{Matrix, symmetrized, jacobiEigen}
 use Rattle.definition.specs.Memory.{vectorOf, blockOf, numberAt, fillRange}
 use Rattle.definition.specs.OrthonormalizeBlock.{Ending, kept, refreshed, zeroed, raisedRefreshed, raisedZeroed}
 use Rattle.definition.specs.SpectralEmbedding.{Counts, rootNorm, spread, scaleOf}
-use Rattle.machine.specs.State.{Stage, stageOf, Asked, wide, chunkCount, matrixRoom, orderRoom, Progress, State, Lent}
+use Rattle.machine.specs.State.{Stage, stageOf, Asked, wide, chunkCount, matrixRoom, orderRoom, Progress, State, Lent, withRecord}
 use Rattle.machine.specs.State as stage
 use Rattle.machine.specs.Work.{freeBlock, endingIn}
 
@@ -188,3 +188,22 @@ module _ (A : Arith) where
 
   unfoldable pub closed : State A → Lent A → State A
   closed s m = closedBy (stageOf (s .progress .stage)) s (m .v0) (m .partials)
+
+  -- ---- the Ritz record: round r's k + 1 places begin at r x (k + 1)
+  -- the bound that the filter used, then the values of the matrix in their order
+  unfoldable pub recorded : ℕ → A .F → List (A .F) → List ℕ → ℕ → A .F
+  recorded k bound matrix order zero = bound
+  recorded k bound matrix order (suc j) = ritzValue A (matrixIn k matrix) (getD order j 0)
+
+  unfoldable pub roundRecorded : ℕ → ℕ → A .F → List (A .F) → List ℕ → List (A .F) → List (A .F)
+  roundRecorded k round bound matrix order l =
+      fillRange (round * (k + 1)) (round * (k + 1) + (k + 1)) (λ p. recorded k bound matrix order (p - round * (k + 1))) l
+
+  -- closing the products writes its round's places, with the bound that the state has still and the matrix and order that closing gives it;
+  -- every other closing leaves the lent lists alone
+  abbrev pub recordAfter : State A → State A → List (A .F) → List (A .F)
+  recordAfter s next l =
+      cond (eqb (s .progress .stage) 14) (roundRecorded (wide (s .asked)) (s .progress .round) (s .progress .bound) (next .matrix) (next .order) l) l
+
+  abbrev pub tidied : State A → Lent A → Lent A
+  tidied s m = withRecord A (recordAfter s (closed s m) (m .ritzRecord)) m

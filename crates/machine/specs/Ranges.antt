@@ -76,7 +76,7 @@ module _ (A : Arith) where
   listsEnough a g = ltb (a .rows) (length (g .starts)) && (leb (a .entries) (length (g .columns)) && leb (a .entries) (length (g .values)))
 
   unfoldable pub lentEnough : Asked → Lent A → List ℕ → Bool
-  lentEnough a m marks = passes (testLent (a .dims) (a .rows) (a .entries) (wholesOf (lengthsOf A m marks)))
+  lentEnough a m marks = passes (testLent (a .dims) (a .rounds) (a .rows) (a .entries) (wholesOf (lengthsOf A m marks)))
 
   -- where the stage reads them for the chunk's rows: the starts; in the edges stage the graph's columns; in the passes the lent edge columns
   unfoldable pub rowsSound : ℕ → Asked → Lists A → Lent A → ℕ → Bool

@@ -43,7 +43,8 @@ module _ (A : Arith) where
     pub counts : CountsReady (s .asked) (s .counts)
     pub order : (j : ℕ) → j < orderRoom → getD (s .order) j 0 < wide (s .asked)
 
-  pub record LentReady (a : Asked) (m : Lent A) : Type 0 where
+  -- the lists that chunks work on
+  pub record WorkReady (a : Asked) (m : Lent A) : Type 0 where
     pub inverse : a .rows ≤ length (m .inverse)
     pub v0 : a .rows ≤ length (m .v0)
     pub edgeColumns : a .entries ≤ length (m .edgeColumns)
@@ -53,6 +54,11 @@ module _ (A : Arith) where
     pub block2 : a .rows * wide a ≤ length (m .block2)
     pub partials : chunkCount a * wide a * wide a ≤ length (m .partials)
     pub output : a .rows * a .dims ≤ length (m .output)
+
+  -- and the Ritz record, which closing writes
+  pub record LentReady (a : Asked) (m : Lent A) : Type 0 where
+    pub lists : WorkReady a m
+    pub ritzRecord : a .rounds * (wide a + 1) ≤ length (m .ritzRecord)
 
   pub record ListsReady (a : Asked) (g : Lists A) : Type 0 where
     pub starts : a .rows < length (g .starts)
@@ -70,7 +76,7 @@ module _ (A : Arith) where
   pub record Ready (s : State A) (h : ℕ) (g : Lists A) (m : Lent A) : Type 0 where
     pub state : StateReady s
     pub lists : ListsReady (s .asked) g
-    pub lent : LentReady (s .asked) m
+    pub lent : WorkReady (s .asked) m
     pub chunk : h < chunkCount (s .asked)
     pub rows : RowsReady (s .progress .stage) (s .asked) g m h
 
@@ -79,3 +85,4 @@ module _ (A : Arith) where
     pub state : StateReady s
     pub v0 : s .asked .rows ≤ length (m .v0)
     pub partials : chunkCount (s .asked) * wide (s .asked) * wide (s .asked) ≤ length (m .partials)
+    pub ritzRecord : s .asked .rounds * (wide (s .asked) + 1) ≤ length (m .ritzRecord)

@@ -80,7 +80,7 @@ module _ (A : Arith) where
     pub vectors : List (A .F)
     pub order : List ℕ
 
-  -- lent memory 0 to 9 but for 8, the marks
+  -- lent memory 0 to 10 but for 8, the marks
   pub record Lent : Type 0 where
     pub inverse : List (A .F)
     pub v0 : List (A .F)
@@ -91,31 +91,35 @@ module _ (A : Arith) where
     pub block2 : List (A .F)
     pub partials : List (A .F)
     pub output : List (A .F)
+    pub ritzRecord : List (A .F)
 
-  -- the lengths of lent memory 0 to 9
+  -- the lengths of lent memory 0 to 10
   abbrev pub lengthsOf : Lent → List ℕ → List ℕ
   lengthsOf m marks =
       length (m .inverse) ∷ length (m .v0) ∷ length (m .edgeColumns) ∷ length (m .edgeWeights) ∷ length (m .block0) ∷ length (m .block1)
-      ∷ length (m .block2) ∷ length (m .partials) ∷ length marks ∷ length (m .output) ∷ []
+      ∷ length (m .block2) ∷ length (m .partials) ∷ length marks ∷ length (m .output) ∷ length (m .ritzRecord) ∷ []
 
   -- ---- one list of the memory set
   abbrev pub withInverse : List (A .F) → Lent → Lent
-  withInverse l m = record { inverse = l; v0 = m .v0; edgeColumns = m .edgeColumns; edgeWeights = m .edgeWeights; block0 = m .block0; block1 = m .block1; block2 = m .block2; partials = m .partials; output = m .output }
+  withInverse l m = record { inverse = l; v0 = m .v0; edgeColumns = m .edgeColumns; edgeWeights = m .edgeWeights; block0 = m .block0; block1 = m .block1; block2 = m .block2; partials = m .partials; output = m .output; ritzRecord = m .ritzRecord }
 
   abbrev pub withV0 : List (A .F) → Lent → Lent
-  withV0 l m = record { inverse = m .inverse; v0 = l; edgeColumns = m .edgeColumns; edgeWeights = m .edgeWeights; block0 = m .block0; block1 = m .block1; block2 = m .block2; partials = m .partials; output = m .output }
+  withV0 l m = record { inverse = m .inverse; v0 = l; edgeColumns = m .edgeColumns; edgeWeights = m .edgeWeights; block0 = m .block0; block1 = m .block1; block2 = m .block2; partials = m .partials; output = m .output; ritzRecord = m .ritzRecord }
 
   abbrev pub withEdgeColumns : List ℕ → Lent → Lent
-  withEdgeColumns l m = record { inverse = m .inverse; v0 = m .v0; edgeColumns = l; edgeWeights = m .edgeWeights; block0 = m .block0; block1 = m .block1; block2 = m .block2; partials = m .partials; output = m .output }
+  withEdgeColumns l m = record { inverse = m .inverse; v0 = m .v0; edgeColumns = l; edgeWeights = m .edgeWeights; block0 = m .block0; block1 = m .block1; block2 = m .block2; partials = m .partials; output = m .output; ritzRecord = m .ritzRecord }
 
   abbrev pub withEdgeWeights : List (A .F) → Lent → Lent
-  withEdgeWeights l m = record { inverse = m .inverse; v0 = m .v0; edgeColumns = m .edgeColumns; edgeWeights = l; block0 = m .block0; block1 = m .block1; block2 = m .block2; partials = m .partials; output = m .output }
+  withEdgeWeights l m = record { inverse = m .inverse; v0 = m .v0; edgeColumns = m .edgeColumns; edgeWeights = l; block0 = m .block0; block1 = m .block1; block2 = m .block2; partials = m .partials; output = m .output; ritzRecord = m .ritzRecord }
 
   abbrev pub withPartials : List (A .F) → Lent → Lent
-  withPartials l m = record { inverse = m .inverse; v0 = m .v0; edgeColumns = m .edgeColumns; edgeWeights = m .edgeWeights; block0 = m .block0; block1 = m .block1; block2 = m .block2; partials = l; output = m .output }
+  withPartials l m = record { inverse = m .inverse; v0 = m .v0; edgeColumns = m .edgeColumns; edgeWeights = m .edgeWeights; block0 = m .block0; block1 = m .block1; block2 = m .block2; partials = l; output = m .output; ritzRecord = m .ritzRecord }
 
   abbrev pub withOutput : List (A .F) → Lent → Lent
-  withOutput l m = record { inverse = m .inverse; v0 = m .v0; edgeColumns = m .edgeColumns; edgeWeights = m .edgeWeights; block0 = m .block0; block1 = m .block1; block2 = m .block2; partials = m .partials; output = l }
+  withOutput l m = record { inverse = m .inverse; v0 = m .v0; edgeColumns = m .edgeColumns; edgeWeights = m .edgeWeights; block0 = m .block0; block1 = m .block1; block2 = m .block2; partials = m .partials; output = l; ritzRecord = m .ritzRecord }
+
+  abbrev pub withRecord : List (A .F) → Lent → Lent
+  withRecord l m = record { inverse = m .inverse; v0 = m .v0; edgeColumns = m .edgeColumns; edgeWeights = m .edgeWeights; block0 = m .block0; block1 = m .block1; block2 = m .block2; partials = m .partials; output = m .output; ritzRecord = l }
 
   -- block 0, 1 or, for any other number, 2
   abbrev pub blockAt : ℕ → Lent → List (A .F)
@@ -124,9 +128,9 @@ module _ (A : Arith) where
   blockAt (suc (suc b)) m = m .block2
 
   abbrev pub withBlock : ℕ → List (A .F) → Lent → Lent
-  withBlock zero l m = record { inverse = m .inverse; v0 = m .v0; edgeColumns = m .edgeColumns; edgeWeights = m .edgeWeights; block0 = l; block1 = m .block1; block2 = m .block2; partials = m .partials; output = m .output }
-  withBlock (suc zero) l m = record { inverse = m .inverse; v0 = m .v0; edgeColumns = m .edgeColumns; edgeWeights = m .edgeWeights; block0 = m .block0; block1 = l; block2 = m .block2; partials = m .partials; output = m .output }
-  withBlock (suc (suc b)) l m = record { inverse = m .inverse; v0 = m .v0; edgeColumns = m .edgeColumns; edgeWeights = m .edgeWeights; block0 = m .block0; block1 = m .block1; block2 = l; partials = m .partials; output = m .output }
+  withBlock zero l m = record { inverse = m .inverse; v0 = m .v0; edgeColumns = m .edgeColumns; edgeWeights = m .edgeWeights; block0 = l; block1 = m .block1; block2 = m .block2; partials = m .partials; output = m .output; ritzRecord = m .ritzRecord }
+  withBlock (suc zero) l m = record { inverse = m .inverse; v0 = m .v0; edgeColumns = m .edgeColumns; edgeWeights = m .edgeWeights; block0 = m .block0; block1 = l; block2 = m .block2; partials = m .partials; output = m .output; ritzRecord = m .ritzRecord }
+  withBlock (suc (suc b)) l m = record { inverse = m .inverse; v0 = m .v0; edgeColumns = m .edgeColumns; edgeWeights = m .edgeWeights; block0 = m .block0; block1 = m .block1; block2 = l; partials = m .partials; output = m .output; ritzRecord = m .ritzRecord }
 
   -- ---- the state of a run as it opens; the state where none is open has the least numbers allowed
   unfoldable pub begunAt : ℕ → Asked → ℕ → State

@@ -51,7 +51,7 @@ module _ (A : Arith) (a : Asked) (r : AskedReady a) where
 
   partial-below : (m : Lent A) → LentReady A a m → (h q : ℕ) → h < chunkCount a → q < wide a * wide a → h * (wide a * wide a) + q < length (m .partials)
   partial-below m l h q p s =
-      omega (arith, l .partials, mul-le-mul-right {m = suc h} {n = chunkCount a} (wide a * wide a) p, suc-mul h (wide a * wide a), mul-assoc (chunkCount a) (wide a) (wide a))
+      omega (arith, l .lists .partials, mul-le-mul-right {m = suc h} {n = chunkCount a} (wide a * wide a) p, suc-mul h (wide a * wide a), mul-assoc (chunkCount a) (wide a) (wide a))
 
   module _ (width : ℕ) (w : width ≤ wide a * wide a) (f : Lent A → ℕ → ℕ → A .F) (loc : Local (partialsL A) (ownPartial (wide a) width) (A .none) (partialVal f)) (m : Lent A) (l : LentReady A a m) where
     pub partials-after : (h q : ℕ) → h < chunkCount a → q < width

@@ -17,7 +17,7 @@ use Rattle.machine.specs.State.{Stage, stageOf, Asked, chunkCount, Lists, State
 use Rattle.machine.specs.State as stage
 use Rattle.machine.specs.Ranges.{testChunk, testClose}
 use Rattle.machine.specs.Work.{work}
-use Rattle.machine.specs.Closing.{closedBy, closed, afterRound}
+use Rattle.machine.specs.Closing.{closedBy, closed, tidied, afterRound}
 use Rattle.machine.specs.Calls.{Outcome, outcome, chunkBy, closeBy, chunkCall, closeCall}
 use Rattle.promises.specs.Run.{machineOf}
 use Rattle.promises.specs.Promises.{callOn, called, acceptedOf}
@@ -84,13 +84,13 @@ module _ (A : Arith) where
     close-by : (v : Verdict) (c : Conf K) (x : ℕ) → v .number ≡ x → c .state .asked ≡ askedOf A d params g → Steps close x c (closeBy A v (c .state) (c .mem) (c .marks))
     unfolding stepBy accept
     close-by v c zero e q =
-        subst (λ (b : Bool). Steps close 0 c (cond b (outcome A accepted (closed A (c .state) (c .mem)) (c .mem) (cleared (chunkCount (c .state .asked)) (c .marks))) (outcome A v (c .state) (c .mem) (c .marks)))) (sym (ap (λ (y : ℕ). eqb y 0) e))
+        subst (λ (b : Bool). Steps close 0 c (cond b (outcome A accepted (closed A (c .state) (c .mem)) (tidied A (c .state) (c .mem)) (cleared (chunkCount (c .state .asked)) (c .marks))) (outcome A v (c .state) (c .mem) (c .marks)))) (sym (ap (λ (y : ℕ). eqb y 0) e))
         (record {
           follows = record { state = refl; lent = refl; marks = ap (λ (y : Asked). cleared (chunkCount y) (c .marks)) (sym q); asks = asked-kept (c .state) (c .mem) ∙ q };
           counts = refl;
         })
     close-by v c (suc x) e q =
-        subst (λ (b : Bool). Steps close (suc x) c (cond b (outcome A accepted (closed A (c .state) (c .mem)) (c .mem) (cleared (chunkCount (c .state .asked)) (c .marks))) (outcome A v (c .state) (c .mem) (c .marks)))) (sym (ap (λ (y : ℕ). eqb y 0) e ∙ refused-number x))
+        subst (λ (b : Bool). Steps close (suc x) c (cond b (outcome A accepted (closed A (c .state) (c .mem)) (tidied A (c .state) (c .mem)) (cleared (chunkCount (c .state .asked)) (c .marks))) (outcome A v (c .state) (c .mem) (c .marks)))) (sym (ap (λ (y : ℕ). eqb y 0) e ∙ refused-number x))
         (record { follows = record { state = refl; lent = refl; marks = refl; asks = q }; counts = ap (λ (b : Bool). cond {A = ℕ} b 1 0) (sym (ap (λ (y : ℕ). eqb y 0) e ∙ refused-number x)) })
 
     -- one call

@@ -99,9 +99,9 @@ module _ (A : Arith) (d : ℕ) (params : Params) (g : Lists A) (U : Sure A d par
 
   -- ---- stages that write a block
   pub room-block : (b : ℕ) (m : Lent A) → LentReady A a m → n * k ≤ length (blockAt A b m)
-  room-block zero m r = r .block0
-  room-block (suc zero) m r = r .block1
-  room-block (suc (suc b)) m r = r .block2
+  room-block zero m r = r .lists .block0
+  room-block (suc zero) m r = r .lists .block1
+  room-block (suc (suc b)) m r = r .lists .block2
 
   pub standing-block : (b : ℕ) (w : Lent A → Block A) (v : Block A) (m : Lent A) → Local (blockL A b) (ownPlace n k) (A .none) (λ h x. numberAt n k (w x))
       → SameBlock A n k (w m) v → (cur : ℕ) (u : Block A) → Stands cur u m

@@ -18,11 +18,11 @@ use Rattle.definition.proofs.Fill.{split}
 use Rattle.input.specs.Valid.{ValidParams, ValidGraph}
 use Rattle.held.specs.Calls.{Machine, Base, full, whole}
 use Rattle.held.proofs.Law.{Ends, ends-on}
-use Rattle.machine.specs.State.{Asked, wide, chunkCount, lastStage, orderRoom, Lists, Progress, State, Lent, askedOf, blockAt, withBlock, withPartials, withOutput}
+use Rattle.machine.specs.State.{Asked, wide, chunkCount, lastStage, orderRoom, Lists, Progress, State, Lent, askedOf, blockAt, withBlock, withPartials, withOutput, withRecord}
 use Rattle.machine.specs.Ranges.{readsEdges, stateSound, boundSound, alphaSound}
 use Rattle.machine.specs.Ready.{AskedReady, CountsReady, ProgressReady, StateReady, LentReady}
 use Rattle.machine.specs.Work.{work}
-use Rattle.machine.specs.Closing.{closed}
+use Rattle.machine.specs.Closing.{closed, tidied}
 use Rattle.ready.proofs.Tested.{state-sound}
 use Rattle.promises.specs.Run.{Steady, machineOf}
 use Rattle.promises.specs.Shows.{Shows, ShowsGraph, HoldsEdges, HoldsBlock}
@@ -157,7 +157,7 @@ module _ (A : Arith) (d : ℕ) (params : Params) (g : Lists A) (U : Sure A d par
 
   pub on : (st r j c t cur prev : ℕ) (b al : A .F) (p f z : ℕ) (w : Idle) (m : Lent A) (rest : ℕ) (Q : Base K → Type 0) → 1 ≤ st → st < lastStage → Fine r j c t cur prev b al p f z
       → LentReady A a m → (readsEdges st ≡ true → HoldsEdges A d params g m) → Shows A d params g (at (here st r j c t cur prev b al p f z w) m)
-      → Leads rest (at (closed A (here st r j c t cur prev b al p f z w) (worked (here st r j c t cur prev b al p f z w) m)) (worked (here st r j c t cur prev b al p f z w) m)) Q
+      → Leads rest (at (closed A (here st r j c t cur prev b al p f z w) (worked (here st r j c t cur prev b al p f z w) m)) (tidied A (here st r j c t cur prev b al p f z w) (worked (here st r j c t cur prev b al p f z w) m))) Q
       → Leads (suc rest) (at (here st r j c t cur prev b al p f z w) m) Q
   unfolding full
   on st r j c t cur prev b al p f z w m rest Q l u F L E S next =
@@ -188,6 +188,9 @@ module _ (A : Arith) (d : ℕ) (params : Params) (g : Lists A) (U : Sure A d par
   graph-block zero l m S = record { inverse = S .inverse; edges = record { column = S .edges .column; weight = S .edges .weight }; v0 = S .v0 }
   graph-block (suc zero) l m S = record { inverse = S .inverse; edges = record { column = S .edges .column; weight = S .edges .weight }; v0 = S .v0 }
   graph-block (suc (suc b)) l m S = record { inverse = S .inverse; edges = record { column = S .edges .column; weight = S .edges .weight }; v0 = S .v0 }
+
+  pub graph-record : (l : List (A .F)) (m : Lent A) → ShowsGraph A d params g m → ShowsGraph A d params g (withRecord A l m)
+  graph-record l m S = record { inverse = S .inverse; edges = record { column = S .edges .column; weight = S .edges .weight }; v0 = S .v0 }
 
   -- the graph, long memory, and a block
   pub record Standing (cur : ℕ) (v : Block A) (m : Lent A) : Type 0 where

@@ -24,7 +24,7 @@ use Rattle.machine.specs.Ranges.{alphaSound}
 use Rattle.machine.specs.Work.{ownPlace, ownPartial, heldBlock, heldOutput, onPartials, rotateWork, sumsWork, centreWork, squaresWork, scaleWork, work}
 use Rattle.machine.specs.Closing.{totalsOf, scalesOf, matrixIn, closed}
 use Rattle.promises.specs.Run.{v0Of, graphIn, solvingAt}
-use Rattle.promises.specs.Shows.{Shows, HoldsBlock, HoldsOutput, ShowsEnd}
+use Rattle.promises.specs.Shows.{Shows, HoldsBlock, HoldsOutput, ShowsSeed}
 use Rattle.promises.proofs.Lenses.{outputL, partialsL, output-block, still-output, still-partials}
 use Rattle.promises.proofs.RowLocal.{centred-local, scaled-local}
 use Rattle.promises.proofs.Acts.{in-place}
@@ -68,7 +68,7 @@ module _ (A : Arith) (d : ℕ) (params : Params) (g : Lists A) (U : Sure A d par
   out-after w v m loc e L = record {
     lent = subst (λ (x : Lent A). LentReady A a x) (sym (whole-is (outputL A) (ownPlace n d) (A .none) (λ h x. numberAt n d (w x)) C m))
         (still-output A a _ m (whole-length (outputL A) (ownPlace n d) (A .none) (λ h x. numberAt n d (w x)) C m) L);
-    held = λ i c p q. places-after A a ready d (U .dims-least) (outputL A) w loc m (L .output) i c p q ∙ e i c p q;
+    held = λ i c p q. places-after A a ready d (U .dims-least) (outputL A) w loc m (L .lists .output) i c p q ∙ e i c p q;
   }
 
   -- ---- a stage that writes the partials keeps it
@@ -156,7 +156,7 @@ module _ (A : Arith) (d : ℕ) (params : Params) (g : Lists A) (U : Sure A d par
     unfolding embedding.counts solution solved solvingAt
     counted-end = ap (λ (x : ℕ). tally A d params g U x (S .basis .refreshed) (S .basis .zeroed)) pe
 
-    pub last-from : Leads A d params g U 5 (at A d params g U (goes 15 w) m) (λ b. ShowsEnd A d params g (b .state) (b .mem))
+    pub last-from : Leads A d params g U 5 (at A d params g U (goes 15 w) m) (λ b. ShowsSeed A d params g (b .state) (b .mem))
     unfolding work closed columnSum squareSum fillOp
     last-from =
         on A d params g U 15 r 0 0 0 cur cur (S .bound) al p (S .basis .refreshed) (S .basis .zeroed) w m _ _ (omega arith) (omega arith) fine (B .stands .lent) (λ z. absurd (false≢true z))
@@ -217,5 +217,5 @@ module _ (A : Arith) (d : ℕ) (params : Params) (g : Lists A) (U : Sure A d par
         O₅ : Out (seedAt A d params G) x₅
         O₅ = scale-made (w₄ .totals) x₄ O₄ t₄
 
-        shows : ShowsEnd A d params g (goes 20 w₄) x₅
+        shows : ShowsSeed A d params g (goes 20 w₄) x₅
         shows = record { seed = O₅ .held; counts = counted-end }

@@ -10,7 +10,7 @@ use Rattle.held.specs.Places.{fillWhere}
 use Rattle.held.proofs.Places.{where-length}
 use Rattle.held.proofs.Ops.{Apart, thence, apart-thence}
 use Rattle.held.proofs.Lens.{Lens, Beside, fillOp, Local, Disjoint, fill-apart, fill-beside}
-use Rattle.machine.specs.State.{Asked, Lent, withInverse, withV0, withEdgeColumns, withEdgeWeights, withPartials, withOutput, blockAt, withBlock}
+use Rattle.machine.specs.State.{Asked, Lent, withInverse, withV0, withEdgeColumns, withEdgeWeights, withPartials, withOutput, withRecord, blockAt, withBlock}
 use Rattle.machine.specs.Work.{freeBlock}
 use Rattle.machine.specs.Ready.{LentReady}
 
@@ -136,6 +136,9 @@ module _ (A : Arith) where
 
     pub still-output : (l : List (A .F)) (m : Lent A) → length l ≡ length (m .output) → LentReady A a m → LentReady A a (withOutput A l m)
     still-output l m e r = omega arith
+
+    pub still-record : (l : List (A .F)) (m : Lent A) → length l ≡ length (m .ritzRecord) → LentReady A a m → LentReady A a (withRecord A l m)
+    still-record l m e r = omega arith
 
     pub still-block : (b : ℕ) (l : List (A .F)) (m : Lent A) → length l ≡ length (blockAt A b m) → LentReady A a m → LentReady A a (withBlock A b l m)
     still-block zero l m e r = omega arith

@@ -19,6 +19,7 @@ pub mod Stages
 pub mod Calls
 pub mod Ieee
 pub mod Untouched
+pub mod Record
 pub mod Promises
 pub mod Fifteen
 pub mod Upward

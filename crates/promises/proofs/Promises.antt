@@ -27,16 +27,18 @@ use Rattle.machine.specs.Ranges.{stateSound, isOpen, testChunk, testClose}
 use Rattle.machine.specs.Work.{work}
 use Rattle.machine.specs.Calls.{Outcome, outcome, openBy, openCall, chunkCall, closeCall, chunkBy, closeBy}
 use Rattle.machine.proofs.Own.{both}
+use Rattle.machine.proofs.Record.{work-record}
 use Rattle.ready.proofs.Tested.{state-ready, state-sound}
 use Rattle.ready.proofs.Ready.{chunk-15, close-15, shut-for-chunk, shut-for-close}
 use Rattle.promises.specs.Run.{Steady, machineOf, graphIn}
-use Rattle.promises.specs.Shows.{Shows, ShowsEnd}
-use Rattle.promises.specs.Promises.{Untouched, callOn, called, acceptedOf, hasEnded, Accepted, after, stagesOf, openedAt, stagesOn, Standing, upwardOrder}
+use Rattle.promises.specs.Shows.{Shows, ShowsSeed, ShowsEnd}
+use Rattle.promises.specs.Promises.{Untouched, callOn, called, acceptedOf, hasEnded, Accepted, after, stagesOf, openedAt, stagesOn, roundsClosed, Recorded, Standing, upwardOrder}
 use Rattle.promises.proofs.Calls.{Follows, run-follows, run-counts, refusal-is}
 use Rattle.promises.proofs.Fits.{Fit, fits}
 use Rattle.promises.proofs.Here.{Sure}
 use Rattle.promises.proofs.Stages.{stages, stages-are, meets}
-use Rattle.promises.proofs.Untouched.{work-untouched, whole-below, parts-below}
+use Rattle.promises.proofs.Record.{says-same, says-way, says-opened}
+use Rattle.promises.proofs.Untouched.{put-record, work-untouched, whole-below, parts-below}
 
 -- the seed_std of a valid request passes its test
 seed-passes : (p : Params) → ValidParams p → passes (testSeedStd (p .seedStd)) ≡ true
@@ -63,15 +65,18 @@ module _ (A : Arith) (steady : Steady A) (d : ℕ) (params : Params) (g : Lists 
   pub lent-ready : LentReady A (askedOf A d params g) m
   unfolding lentSizes
   lent-ready = record {
-    inverse = valid .enough 0 (omega arith);
-    v0 = valid .enough 1 (omega arith);
-    edgeColumns = valid .enough 2 (omega arith);
-    edgeWeights = valid .enough 3 (omega arith);
-    block0 = valid .enough 4 (omega arith);
-    block1 = valid .enough 5 (omega arith);
-    block2 = valid .enough 6 (omega arith);
-    partials = valid .enough 7 (omega arith);
-    output = valid .enough 9 (omega arith);
+    lists = record {
+      inverse = valid .enough 0 (omega arith);
+      v0 = valid .enough 1 (omega arith);
+      edgeColumns = valid .enough 2 (omega arith);
+      edgeWeights = valid .enough 3 (omega arith);
+      block0 = valid .enough 4 (omega arith);
+      block1 = valid .enough 5 (omega arith);
+      block2 = valid .enough 6 (omega arith);
+      partials = valid .enough 7 (omega arith);
+      output = valid .enough 9 (omega arith);
+    };
+    ritzRecord = valid .enough 10 (omega arith);
   }
 
   pub marks-enough : K .chunks ≤ length marks
@@ -89,9 +94,9 @@ module _ (A : Arith) (steady : Steady A) (d : ℕ) (params : Params) (g : Lists 
   unfolding end
   way = meets A d params g sure m lent-ready .way
 
-  pub end-shows : ShowsEnd A d params g (end .state) (end .mem)
+  end-seed : ShowsSeed A d params g (end .state) (end .mem)
   unfolding end
-  end-shows = meets A d params g sure m lent-ready .holds
+  end-seed = meets A d params g sure m lent-ready .holds
 
   pub opening : Follows A d params g (opened K start marks) (openCall A d params g m marks)
   unfolding opened openCall openedState begunAt
@@ -118,10 +123,33 @@ module _ (A : Arith) (steady : Steady A) (d : ℕ) (params : Params) (g : Lists 
   behind-way n a b w T zero l = (T, way-fit n a b w)
   behind-way zero a b w T (suc p) l = absurd (omega arith)
   behind-way (suc n) a b w T (suc p) l =
-      behind-way n (held.stage K a) b (w .3) (whole-below (λ h y. work A (a .state) g h y) Behind (K .chunks) (λ h y q t. behind-work (a .state) (a .mem) (w .1) h y q t) (a .mem) T) p (omega arith)
+      behind-way n (held.stage K a) b (w .3) (put-record A m (askedOf A d params g) _ (whole-below (λ h y. work A (a .state) g h y) Behind (K .chunks) (λ h y q t. behind-work (a .state) (a .mem) (w .1) h y q t) (a .mem) T) _) p (omega arith)
 
   itself : Behind m
   itself = record { inverse = λ p l. refl; v0 = λ p l. refl; edgeColumns = λ p l. refl; edgeWeights = λ p l. refl; block0 = λ p l. refl; block1 = λ p l. refl; block2 = λ p l. refl; partials = λ p l. refl; output = λ p l. refl }
+
+  -- the Ritz record after any stages, and at the end, where all rounds are closed
+  abbrev Says : State A → Lent A → Type 0
+  Says = Recorded A d params g m
+
+  says-at : (p : ℕ) → p ≤ stages A d params g sure → Says (iter K p start .state) (iter K p start .mem)
+  says-at = says-way A d params g sure m (stages A d params g sure) start end way (says-opened A d params g sure m)
+
+  way-last : (n : ℕ) (a b : Base K) → Way K (Fit A d params g) (Shows A d params g) n a b → (iter K n a ≡ b) × (K .over (b .state) ≡ true) × Fit A d params g (b .state) (b .mem)
+  unfolding iter
+  way-last zero a b w = (w .3, subst (λ (x : Base K). K .over (x .state) ≡ true) (w .3) (w .0), subst (λ (x : Base K). Fit A d params g (x .state) (x .mem)) (w .3) (w .1))
+  way-last (suc n) a b w = way-last n (held.stage K a) b (w .3)
+
+  all-closed : (s : State A) → s .progress .stage ≡ lastStage → s .asked ≡ askedOf A d params g → roundsClosed A s ≡ params .rounds
+  unfolding roundsClosed
+  all-closed s e q = ap (λ (x : ℕ). cond (ltb 14 x) (s .asked .rounds) (s .progress .round)) e ∙ ap (λ (a : Asked). a .rounds) q
+
+  pub end-shows : ShowsEnd A d params g (end .state) (end .mem)
+  end-shows =
+      let w = way-last (stages A d params g sure) start end way in
+      let R = subst (λ (b : Base K). Says (b .state) (b .mem)) (w .0) (says-at (stages A d params g sure) (omega arith)) in
+      let e = all-closed (end .state) (eqb-true (end .state .progress .stage) lastStage (w .1)) (w .2 .asks) in
+      record { seed = end-seed .seed; counts = end-seed .counts; ritz = λ q j l u. R .rounds q j (omega arith) u }
 
   pub over-is : (s : State A) → hasEnded A s → K .over s ≡ true
   over-is s e = eq-eqb (s .progress .stage) lastStage e
@@ -151,6 +179,12 @@ module _ (A : Arith) (steady : Steady A) (d : ℕ) (params : Params) (g : Lists 
       state = sym (follows .state) ∙ there .2 .state;
       lent = sym (follows .lent) ∙ there .2 .mem ∙ ap (λ (l : List ℕ). held.memAt K (iter K (there .0) start .state) (iter K (there .0) start .mem) (done l)) (follows .marks);
       shows = there .3;
+      recorded =
+          let s = iter K (there .0) start in
+          says-same A d params g sure m (s .state) (now .state) (s .mem) (now .lent) (ap (roundsClosed A) (sym (follows .state) ∙ there .2 .state))
+          (ap (λ (x : Lent A). x .ritzRecord) (sym (follows .lent) ∙ there .2 .mem)
+          ∙ parts-below (λ h y. work A (s .state) g h y) (λ x. x .ritzRecord ≡ s .mem .ritzRecord) (done (conf .marks)) (K .chunks) (λ h y q t. work-record A (s .state) g h y ∙ t) (s .mem) refl)
+          (says-at (there .0) (there .1));
     }
 
     -- only the run has changed the marks; and the chunks done are calls accepted
@@ -197,7 +231,7 @@ module _ (A : Arith) (steady : Steady A) (d : ℕ) (params : Params) (g : Lists 
         omega (arith, u, ap (λ (c : Conf K). c .calls) z))
         ∙ ap (λ (x : ℕ). x * suc (K .chunks)) (stages-are A d params g sure)
 
-    -- 4: the output is the seed, and the counts are the definition's
+    -- 4: the output is the seed, and the counts and the Ritz record are the definition's
     pub ends : hasEnded A (now .state) → ShowsEnd A d params g (now .state) (now .lent)
     unfolding finished
     ends e =

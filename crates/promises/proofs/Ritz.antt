@@ -9,7 +9,7 @@ use lib.ListN.{length, getD, replicate, length-replicate, getD-replicate, List·
 use lib.Seq.{getD-append-add}
 use Rattle.definition.specs.Arith.{Arith}
 use Rattle.definition.specs.Arrange.{arrangedBy}
-use Rattle.definition.specs.ChebyshevRayleighRitz.{Solving, ahead, ritzOrder, ritzValue, nextBound, cutValue, boundAfter, products, plainMultipliers, roundsFrom, roundStep, roundEigen}
+use Rattle.definition.specs.ChebyshevRayleighRitz.{Solving, ahead, ritzOrder, ritzValue, fallingValue, nextBound, cutValue, boundAfter, products, plainMultipliers, roundsFrom, roundStep, roundEigen}
 use Rattle.definition.specs.ChunkedColumnReduce.{Vector, Block, partialSum, chunkedSum}
 use Rattle.definition.specs.JacobiEigen.{Matrix, Eigen, symmetrized, jacobiEigen}
 use Rattle.definition.specs.MatvecCombine.{Operator, matvecCombine}
@@ -172,13 +172,18 @@ module _ (A : Arith) (d : ℕ) (params : Params) (g : Lists A) (U : Sure A d par
         (λ s. omega (arith, order-at j s, order-below j s))
         (λ s. let q : k + (j - k) ≡ j = omega arith in omega (arith, rw q at (order-rest (j - k) (omega arith))))
 
+    -- the values in the Ritz order
+    pub value-at : (j : ℕ) → j < k → ritzValue A (matrixIn A k matrix) (getD (orderIn A k matrix) j 0) ≡ fallingValue A k (ritzValue A (eigen .matrix)) j
+    unfolding fallingValue
+    value-at j p = ap (λ (i : ℕ). ritzValue A (matrixIn A k matrix) i) (order-at j p) ∙ matrix-agree _ _ (order-below j p) (order-below j p)
+
     -- the next bound
     pub bound-same : (rounds round : ℕ) (x : A .F)
         → boundAfter A d rounds round x (ritzValue A (matrixIn A k matrix)) (orderIn A k matrix) ≡ boundAfter A d rounds round x (ritzValue A (eigen .matrix)) (ritzOrder A k (ritzValue A (eigen .matrix)))
     unfolding boundAfter cutValue
     bound-same rounds round x =
         ap (λ (y : A .F). cond (ltb (round + 1) rounds) (nextBound A y) x)
-        (ap (λ (j : ℕ). ritzValue A (matrixIn A k matrix) j) (order-at (d + 1) (omega arith)) ∙ matrix-agree _ _ (order-below (d + 1) (omega arith)) (order-below (d + 1) (omega arith)))
+        (unfold fallingValue in value-at (d + 1) (omega arith))
 
   -- ---- one round more at the end
   module _ (op : Operator A) (v0 : Vector A) (s : Solving A) where

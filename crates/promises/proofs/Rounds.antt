@@ -14,17 +14,21 @@ use Rattle.definition.specs.ChunkedColumnReduce.{Vector, Block}
 use Rattle.definition.specs.MatvecCombine.{Operator, matvecCombine}
 use Rattle.definition.specs.Numbers.{Params, width, chunks}
 use Rattle.definition.specs.OrthonormalizeBlock.{Basis, columnsFrom, orthonormalizeBlock}
+use Rattle.definition.specs.Memory.{blockOf}
 use Rattle.definition.proofs.Agree.{Agree}
+use Rattle.definition.proofs.Fill.{fill-length}
 use Rattle.held.specs.Calls.{Base, whole}
 use Rattle.held.proofs.Lens.{fillOp}
-use Rattle.machine.specs.State.{Asked, askedOf, Lists, State, Lent}
+use Rattle.machine.specs.State.{Asked, askedOf, Lists, State, Lent, withRecord}
 use Rattle.machine.specs.Ready.{AskedReady}
 use Rattle.machine.specs.Ranges.{boundSound, alphaSound}
 use Rattle.machine.specs.Work.{freeBlock, work}
-use Rattle.machine.specs.Closing.{totalsOf, matrixIn, symmetricIn, eigenMatrix, eigenVectors, orderIn, afterRound, closed}
+use Rattle.machine.proofs.Record.{record-block}
+use Rattle.machine.specs.Closing.{roundRecorded, tidied, totalsOf, matrixIn, symmetricIn, eigenMatrix, eigenVectors, orderIn, afterRound, closed}
 use Rattle.promises.specs.Run.{operatorOf, v0Of, solvingAt, filteringAt, basisAt, roundBlock}
 use Rattle.promises.specs.Shows.{HoldsBlock, HoldsProducts, ShowsBasis, ShowsPlain}
-use Rattle.promises.proofs.Here.{Sure, asked-ready, Idle, here, Fine, Leads, at, worked, on, known, Standing, K}
+use Rattle.promises.proofs.Here.{Sure, asked-ready, Idle, here, Fine, Leads, at, worked, on, known, graph-record, Standing, K}
+use Rattle.promises.proofs.Lenses.{still-record}
 use Rattle.promises.proofs.Column.{standing-partials}
 use Rattle.promises.proofs.Columns.{Counted, columnsStages, columns-from}
 use Rattle.promises.proofs.Filter.{more, Passed, pass-leaves, pass-keeps, filter-from}
@@ -74,6 +78,21 @@ module _ (A : Arith) (d : ℕ) (params : Params) (g : Lists A) (U : Sure A d par
     pub refreshed : S r .basis .refreshed ≤ r * k
     pub zeroed : S r .basis .zeroed ≤ r * k
     pub products : (r′ : ℕ) → r ≡ suc r′ → HoldsProducts A d params g r′ m
+
+  -- another record of the same length beside it
+  begun-record : (r cur : ℕ) (m : Lent A) (l : List (A .F)) → length l ≡ length (m .ritzRecord) → Begun r cur m → Begun r cur (withRecord A l m)
+  begun-record r cur m l e B = record {
+    stands = record {
+      graph = graph-record A d params g U l m (B .stands .graph);
+      lent = still-record A a l m e (B .stands .lent);
+      block = λ i c p q. ap (λ (x : List (A .F)). blockOf (A .none) n k x i c) (record-block A l cur m) ∙ B .stands .block i c p q;
+    };
+    current = B .current;
+    bound = B .bound;
+    refreshed = B .refreshed;
+    zeroed = B .zeroed;
+    products = B .products;
+  }
 
   pub record Solves (r : ℕ) (w : Idle A d params g U) : Type 0 where
     pub vectors : Agree k (matrixIn A k (w .vectors)) (S r .vectors)
@@ -193,6 +212,14 @@ module _ (A : Arith) (d : ℕ) (params : Params) (g : Lists A) (U : Sure A d par
         order = λ j q. subst (λ (s : Solving A). getD (w₂ .order) j 0 ≡ getD (s .order) j 0) (sym ends) (order-at A d params g U l (products A n v y) sized agree j q);
       }
 
+      -- and the memory that the products' closing leaves
+      m₃ : Lent A
+      m₃ = tidied A (goes 14 (p + 1)) m₂
+
+      begun-next : Begun (suc r) cur m₃
+      unfolding m₃ roundRecorded
+      begun-next = begun-record (suc r) cur m₂ _ (fill-length _ _ _ (m₂ .ritzRecord)) begun
+
       -- the state that the products' closing answers
       closes : closed A (goes 14 (p + 1)) m₂ ≡ afterAt (ltb (r + 1) (params .rounds)) r cur al (p + 1) w₂
       unfolding closed afterRound ritzStep roundEigen w₂
@@ -204,13 +231,13 @@ module _ (A : Arith) (d : ℕ) (params : Params) (g : Lists A) (U : Sure A d par
 
       pub plain-from : ((w′ : Idle A d params g U) (m′ : Lent A) → Begun (suc r) cur m′ → Solves (suc r) w′ → Leads A d params g U rest (at A d params g U (afterAt (ltb (r + 1) (params .rounds)) r cur al (p + 1) w′) m′) Q)
           → Leads A d params g U (suc (suc rest)) (at A d params g U (goes 13 p) m) Q
-      unfolding closed m₁ m₂ roundBlock roundBasis orthonormalizeBlock basisAt
+      unfolding closed m₁ m₂ m₃ roundBlock roundBasis orthonormalizeBlock basisAt
       plain-from next =
           on A d params g U 13 r 0 0 0 cur prev (S r .bound) al p f z w m (suc rest) Q (omega arith) (omega arith) (fine p (omega arith)) (T .lent) (λ t. T .graph .edges)
           (record { graph = T .graph; current = T .block })
           (on A d params g U 14 r 0 0 0 cur prev (S r .bound) al (p + 1) f z w m₁ rest Q (omega arith) (omega arith) (fine (p + 1) (omega arith)) (T₁ .lent) (λ t. T₁ .graph .edges)
-          (record { basis = record { graph = T₁ .graph; current = T₁ .block }; plain = Y₁ })
-          (known A d params g U _ (afterAt (ltb (r + 1) (params .rounds)) r cur al (p + 1) w₂) m₂ rest Q closes (next w₂ m₂ begun solves)))
+          (record { basis = record { graph = T₁ .graph; current = T₁ .block }; bound = refl; plain = Y₁ })
+          (known A d params g U _ (afterAt (ltb (r + 1) (params .rounds)) r cur al (p + 1) w₂) m₃ rest Q closes (next w₂ m₃ begun-next solves)))
 
     -- ---- one round
     abbrev beginsAt : ℕ → ℕ → A .F → ℕ → Idle A d params g U → State A

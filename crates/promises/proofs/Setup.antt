@@ -77,14 +77,14 @@ module _ (A : Arith) (d : ℕ) (params : Params) (g : Lists A) (U : Sure A d par
     degrees-inverse i l =
         ap (λ (x : Lent A). vectorOf (A .none) (x .inverse) i)
         (whole-onto (λ h x. degreesWork A a g h x) (fillOp (inverseL A) (ownRow n) (A .none) (λ h x. inverseOfRow A (graphIn A g))) (λ x. withV0 A [] x) (λ h x. refl) C m)
-        ∙ rows-after A a ready (inverseL A) (λ x. inverseOfRow A (graphIn A g)) (λ h x y e t j o q. refl) (withV0 A [] m) (L .inverse) i l
+        ∙ rows-after A a ready (inverseL A) (λ x. inverseOfRow A (graphIn A g)) (λ h x y e t j o q. refl) (withV0 A [] m) (L .lists .inverse) i l
 
     pub degrees-roots : (i : ℕ) → i < n → vectorOf (A .none) (m₁ .v0) i ≡ rootOfRow A (graphIn A g) i
     unfolding fillOp
     degrees-roots i l =
         ap (λ (x : Lent A). vectorOf (A .none) (x .v0) i)
         (whole-onto (λ h x. degreesWork A a g h x) (fillOp (v0L A) (ownRow n) (A .none) (λ h x. rootOfRow A (graphIn A g))) (λ x. withInverse A [] x) (λ h x. refl) C m)
-        ∙ rows-after A a ready (v0L A) (λ x. rootOfRow A (graphIn A g)) (λ h x y e t j o q. refl) (withInverse A [] m) (L .v0) i l
+        ∙ rows-after A a ready (v0L A) (λ x. rootOfRow A (graphIn A g)) (λ h x y e t j o q. refl) (withInverse A [] m) (L .lists .v0) i l
 
     pub degrees-norm : rootNorm A n (vectorOf (A .none) (m₁ .v0)) ≡ rootNorm A n (rootOfRow A (graphIn A g))
     unfolding rootNorm
@@ -135,11 +135,11 @@ module _ (A : Arith) (d : ℕ) (params : Params) (g : Lists A) (U : Sure A d par
     edges-hold = record {
       column = λ i p l q r.
           ap (λ (x : Lent A). wholesOf (x .edgeColumns) p) (whole-onto (λ h x. edgesWork A a g h x) (fillOp (edgeColumnsL A) own 0 columnVal) (λ x. withEdgeWeights A [] x) (λ h x. refl) C m)
-          ∙ whole-at (edgeColumnsL A) own 0 once columnVal (λ h x y e t j o z. refl) C (withEdgeWeights A [] m) (i / chunkRows) p (chunk-of n i l) (entry-owned i p l q r) (omega (arith, L .edgeColumns, entry-room i p l r))
+          ∙ whole-at (edgeColumnsL A) own 0 once columnVal (λ h x y e t j o z. refl) C (withEdgeWeights A [] m) (i / chunkRows) p (chunk-of n i l) (entry-owned i p l q r) (omega (arith, L .lists .edgeColumns, entry-room i p l r))
           ∙ ap₂ (λ (f : ℕ → ℕ) (x : ℕ). edgeColumn (wholesOf (g .starts)) f x p) columns-all (entry-row i p l q r);
       weight = λ i p l q r.
           ap (λ (x : Lent A). vectorOf (A .none) (x .edgeWeights) p) (whole-onto (λ h x. edgesWork A a g h x) (fillOp (edgeWeightsL A) own (A .none) weightVal) (λ x. withEdgeColumns A [] x) (λ h x. refl) C m)
-          ∙ whole-at (edgeWeightsL A) own (A .none) once weightVal (λ h x y e t j o z. refl) C (withEdgeColumns A [] m) (i / chunkRows) p (chunk-of n i l) (entry-owned i p l q r) (omega (arith, L .edgeWeights, entry-room i p l r))
+          ∙ whole-at (edgeWeightsL A) own (A .none) once weightVal (λ h x y e t j o z. refl) C (withEdgeColumns A [] m) (i / chunkRows) p (chunk-of n i l) (entry-owned i p l q r) (omega (arith, L .lists .edgeWeights, entry-room i p l r))
           ∙ ap₂ (λ (f : ℕ → ℕ) (x : ℕ). edgeWeight A (wholesOf (g .starts)) f (valueIn A a g) (vectorOf (A .none) (m .inverse)) x p) columns-all (entry-row i p l q r)
           ∙ ap (λ (f : ℕ → A .F). edgeWeight A (wholesOf (g .starts)) (wholesOf (g .columns)) f (vectorOf (A .none) (m .inverse)) i p) values-all
           ∙ ap (A .mul (vectorOf (A .none) (g .values) (edge (wholesOf (g .starts)) (wholesOf (g .columns)) i p)))
@@ -157,7 +157,7 @@ module _ (A : Arith) (d : ℕ) (params : Params) (g : Lists A) (U : Sure A d par
     v0-made : (i : ℕ) → i < n → vectorOf (A .none) (m₃ .v0) i ≡ embedding.v0Of A norm (vectorOf (A .none) (m .v0) i)
     unfolding fillOp
     v0-made i l =
-        rows-after A a ready (v0L A) (λ x j. embedding.v0Of A norm (vectorOf (A .none) (x .v0) j)) (λ h x y e t j o q. ap (embedding.v0Of A norm) (t j o)) m (L .v0) i l
+        rows-after A a ready (v0L A) (λ x j. embedding.v0Of A norm (vectorOf (A .none) (x .v0) j)) (λ h x y e t j o q. ap (embedding.v0Of A norm) (t j o)) m (L .lists .v0) i l
 
   -- ---- the four stages
   w₀ : Idle A d params g U

@@ -16,7 +16,7 @@ use Rattle.held.specs.Calls.{Base}
 use Rattle.machine.specs.State.{Asked, askedOf, Lists, State, Lent, openedState}
 use Rattle.machine.specs.Ready.{AskedReady, LentReady}
 use Rattle.promises.specs.Run.{v0Of, graphIn, solvingAt, basisAt}
-use Rattle.promises.specs.Shows.{ShowsEnd}
+use Rattle.promises.specs.Shows.{ShowsSeed}
 use Rattle.promises.specs.Promises.{stagesOf}
 use Rattle.promises.proofs.Here.{Sure, asked-ready, Leads, at, Standing, K}
 use Rattle.promises.proofs.Columns.{firstEnding, columnStages, columnsStages, basis-next, not-again}
@@ -145,7 +145,7 @@ module _ (A : Arith) (d : ℕ) (params : Params) (g : Lists A) (U : Sure A d par
       omega (arith, rounds-take (params .rounds - 1) 0 5, none-first, ap (λ (x : ℕ). x * (params .degree + 2 + 7 * k)) e, ap F z, solution-is)
 
   -- ---- the way
-  pub meets : (m : Lent A) → LentReady A a m → Leads A d params g U stages (at A d params g U (openedState A d params g) m) (λ b. ShowsEnd A d params g (b .state) (b .mem))
+  pub meets : (m : Lent A) → LentReady A a m → Leads A d params g U stages (at A d params g U (openedState A d params g) m) (λ b. ShowsSeed A d params g (b .state) (b .mem))
   unfolding solvingAt roundsFrom begun
   meets m L =
       setup-from A d params g U m _ _ L

@@ -14,7 +14,7 @@ use Rattle.definition.proofs.Chunks.{first-most}
 use Rattle.held.specs.Calls.{whole, parts}
 use Rattle.held.specs.Places.{fillWhere}
 use Rattle.held.proofs.Places.{where-out}
-use Rattle.machine.specs.State.{Stage, stageOf, Asked, wide, chunkCount, Lists, State, Lent, withInverse, withV0, withEdgeColumns, withEdgeWeights, withPartials, withOutput, blockAt, withBlock}
+use Rattle.machine.specs.State.{Stage, stageOf, Asked, wide, chunkCount, Lists, State, Lent, withInverse, withV0, withEdgeColumns, withEdgeWeights, withPartials, withOutput, withRecord, blockAt, withBlock}
 use Rattle.machine.specs.State as stage
 use Rattle.machine.specs.Work.{ownRow, ownEntry, ownPlace, ownPartial, freeBlock, workBy, work}
 use Rattle.machine.specs.Ready.{AskedReady, StateReady}
@@ -67,6 +67,10 @@ module _ (A : Arith) (m₀ : Lent A) where
     put-block zero l e = record { inverse = T .inverse; v0 = T .v0; edgeColumns = T .edgeColumns; edgeWeights = T .edgeWeights; block0 = λ p q. e p q ∙ T .block0 p q; block1 = T .block1; block2 = T .block2; partials = T .partials; output = T .output }
     put-block (suc zero) l e = record { inverse = T .inverse; v0 = T .v0; edgeColumns = T .edgeColumns; edgeWeights = T .edgeWeights; block0 = T .block0; block1 = λ p q. e p q ∙ T .block1 p q; block2 = T .block2; partials = T .partials; output = T .output }
     put-block (suc (suc b)) l e = record { inverse = T .inverse; v0 = T .v0; edgeColumns = T .edgeColumns; edgeWeights = T .edgeWeights; block0 = T .block0; block1 = T .block1; block2 = λ p q. e p q ∙ T .block2 p q; partials = T .partials; output = T .output }
+
+    -- the Ritz record is beside all that
+    pub put-record : (l : List (A .F)) → Untouched A a m₀ (withRecord A l m)
+    put-record l = record { inverse = T .inverse; v0 = T .v0; edgeColumns = T .edgeColumns; edgeWeights = T .edgeWeights; block0 = T .block0; block1 = T .block1; block2 = T .block2; partials = T .partials; output = T .output }
 
     -- ---- the kinds of work
     on-block : (b h : ℕ) (f : ℕ → A .F) → Untouched A a m₀ (withBlock A b (fillWhere (ownPlace (a .rows) (wide a) h) f (blockAt A b m)) m)

@@ -16,10 +16,10 @@ use Rattle.held.specs.Calls.{Call, Machine, Base, iter, full, whole, run, opene
 use Rattle.held.specs.Calls as held
 use Rattle.held.proofs.Law.{Way, Fits, iter-end, one-end, canonical}
 use Rattle.machine.specs.State.{Asked, chunkCount, lastStage, Lists, State, Lent, askedOf}
-use Rattle.machine.specs.Ready.{Ready, Closable, RowsReady, LentReady, ListsReady}
+use Rattle.machine.specs.Ready.{Ready, Closable, RowsReady, WorkReady, LentReady, ListsReady}
 use Rattle.machine.specs.Calls.{openCall}
 use Rattle.machine.specs.Work.{work}
-use Rattle.machine.specs.Closing.{closed}
+use Rattle.machine.specs.Closing.{closed, tidied}
 use Rattle.ready.proofs.Tested.{state-ready}
 use Rattle.promises.specs.Run.{Steady, machineOf, graphIn}
 use Rattle.promises.specs.Shows.{Shows, ShowsEnd}
@@ -81,7 +81,7 @@ module _ (A : Arith) (steady : Steady A) (d : ℕ) (params : Params) (g : Lists 
   pub end-ended : hasEnded A (endOf A d params g m .state)
   end-ended = last-way .0
 
-  -- its output is the seed, and its counts are the definition's
+  -- its output is the seed, and its counts and Ritz record are the definition's
   pub whole-shows : ShowsEnd A d params g (endOf A d params g m .state) (endOf A d params g m .mem)
   whole-shows = subst (λ (b : Base K). ShowsEnd A d params g (b .state) (b .mem)) (sym (last-way .1)) (end-shows A steady d params g m marks ok)
 
@@ -112,7 +112,7 @@ module _ (A : Arith) (steady : Steady A) (d : ℕ) (params : Params) (g : Lists 
       record {
         state = state-ready A (here p .state) (T .state);
         lists = subst (λ (a : Asked). ListsReady A a g) (sym (T .asks)) (record { starts = omega (arith, G .rows-least); columns = omega arith; values = omega (arith, G .lengths) });
-        lent = subst (λ (a : Asked). LentReady A a (midway A d params g p h m)) (sym (T .asks)) (T .lent);
+        lent = subst (λ (a : Asked). WorkReady A a (midway A d params g p h m)) (sym (T .asks)) (T .lent .lists);
         chunk = subst (λ (a : Asked). h < chunkCount a) (sym (T .asks)) q;
         rows = subst (λ (a : Asked). RowsReady A (here p .state .progress .stage) a g (midway A d params g p h m) h) (sym (T .asks)) (record {
           starts = λ e. chunk-starts A d params g G h;
@@ -135,9 +135,9 @@ module _ (A : Arith) (steady : Steady A) (d : ℕ) (params : Params) (g : Lists 
   midway-closable p l =
       let T = midway-fit p (K .chunks) l in
       let L = subst (λ (a : Asked). LentReady A a (midway A d params g p (K .chunks) m)) (sym (T .asks)) (T .lent) in
-      record { state = state-ready A (here p .state) (T .state); v0 = L .v0; partials = L .partials }
+      record { state = state-ready A (here p .state) (T .state); v0 = L .lists .v0; partials = L .lists .partials; ritzRecord = L .ritzRecord }
 
-  pub stage-next : (p : ℕ) → here (p + 1) ≡ record { state = closed A (here p .state) (midway A d params g p (K .chunks) m); mem = midway A d params g p (K .chunks) m }
+  pub stage-next : (p : ℕ) → here (p + 1) ≡ record { state = closed A (here p .state) (midway A d params g p (K .chunks) m); mem = tidied A (here p .state) (midway A d params g p (K .chunks) m) }
   unfolding held.stage full
   stage-next p = ap here (let e : p + 1 ≡ suc p = omega arith in e) ∙ iter-end K p (openedAt A d params g m)
 

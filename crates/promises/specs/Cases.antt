@@ -20,7 +20,7 @@ abbrev pub zeros : ℕ → List Float
 zeros n = replicate n (ofBits binary64 0)
 
 abbrev pub enough : Lent ieee64
-enough = record { inverse = zeros 1; v0 = zeros 1; edgeColumns = []; edgeWeights = []; block0 = zeros 9; block1 = zeros 9; block2 = zeros 9; partials = zeros 81; output = zeros 1 }
+enough = record { inverse = zeros 1; v0 = zeros 1; edgeColumns = []; edgeWeights = []; block0 = zeros 9; block1 = zeros 9; block2 = zeros 9; partials = zeros 81; output = zeros 1; ritzRecord = zeros 50 }
 
 abbrev pub begun : Outcome ieee64
 begun = openCall ieee64 1 defaults oneRow enough (0 ∷ [])

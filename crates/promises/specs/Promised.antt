@@ -21,7 +21,8 @@ pub data Turns (g : Lists ieee64) : List Call → Outcome ieee64 → Outcome iee
 
 -- What is promised of the last of them, after an accepted opening of the memory m.
 pub record Promised (d : ℕ) (params : Params) (g : Lists ieee64) (m : Lent ieee64) (marks : List ℕ) (ks : List Call) (o : Outcome ieee64) : Type 0 where
-  -- state and memory are the definition's for exactly the chunks done, and nothing behind the sizes in use is touched
+  -- state and memory are the definition's for exactly the chunks done, the Ritz record for exactly the rounds closed, and nothing behind the
+  -- sizes in use is touched
   pub stands : Standing ieee64 d params g m o
   -- the marks are as long as they were lent, each of the first C is 0 or 1, and those behind C are as they were
   pub marked : Marked (chunks (length (g .starts) - 1)) marks (o .marks)
@@ -33,7 +34,7 @@ pub record Promised (d : ℕ) (params : Params) (g : Lists ieee64) (m : Lent iee
   pub never-16 : (k : Call) → machineOf ieee64 g .refuse k (o .state) (o .lent) (o .marks) ≡ 16 → ⊥
   pub ended-15 : hasEnded ieee64 (o .state) → (k : Call) → machineOf ieee64 g .refuse k (o .state) (o .lent) (o .marks) ≡ 15
   pub only-15 : (k : Call) → machineOf ieee64 g .refuse k (o .state) (o .lent) (o .marks) ≡ 15 → hasEnded ieee64 (o .state)
-  -- a run that has ended has the one state and the one memory, the definition's seed and counts, after document 01's number of accepted calls
+  -- a run that has ended has the one state and the one memory, the definition's seed, counts and Ritz record, after document 01's number of accepted calls
   pub same-end : hasEnded ieee64 (o .state) → (o .state ≡ endOf ieee64 d params g m .state) × (o .lent ≡ endOf ieee64 d params g m .mem)
   pub ends : hasEnded ieee64 (o .state) → ShowsEnd ieee64 d params g (o .state) (o .lent)
   pub calls : hasEnded ieee64 (o .state) → acceptedOf ieee64 g ks (openCall ieee64 d params g m marks) ≡ stagesOf ieee64 d params g * suc (chunks (length (g .starts) - 1))

@@ -3,6 +3,7 @@ use mathlib.Core.Path.{_≡_}
 use mathlib.Core.Bool.{Bool, true, cond}
 use mathlib.Core.List.{List, [], _∷_}
 use Prim.Native.Nat.{ℕ, suc, _+_, _-_, _*_, _≤_, _<_}
+use lib.Dec.{ltb}
 use lib.ListN.{length, getD}
 use Rattle.definition.specs.Arith.{Arith}
 use Rattle.definition.specs.Memory.{wholesOf}
@@ -14,10 +15,14 @@ use Rattle.held.specs.Marks.{done}
 use Rattle.machine.specs.State.{Asked, wide, chunkCount, Lists, State, Lent, lastStage, lengthsOf, openedState}
 use Rattle.machine.specs.Calls.{Outcome, openCall, chunkCall, closeCall}
 use Rattle.promises.specs.Run.{graphIn, machineOf}
-use Rattle.promises.specs.Shows.{Shows, ShowsEnd}
+use Rattle.promises.specs.Shows.{Shows, HoldsRecord}
 
 module _ (A : Arith) where
-  -- behind the sizes in use every list is as it was lent
+  -- the rounds whose products have closed: all of them in the stages behind the products, before that those below the round at hand
+  unfoldable pub roundsClosed : State A → ℕ
+  roundsClosed s = cond (ltb 14 (s .progress .stage)) (s .asked .rounds) (s .progress .round)
+
+  -- behind the sizes in use every list is as it was lent; what of the Ritz record is, `Recorded` says
   pub record Untouched (a : Asked) (m₀ m : Lent A) : Type 0 where
     pub inverse : (p : ℕ) → a .rows ≤ p → getD (m .inverse) p (A .none) ≡ getD (m₀ .inverse) p (A .none)
     pub v0 : (p : ℕ) → a .rows ≤ p → getD (m .v0) p (A .none) ≡ getD (m₀ .v0) p (A .none)
@@ -67,14 +72,21 @@ module _ (A : Arith) where
     abbrev pub stagesOn : ℕ → Lent A → Base (machineOf A g)
     stagesOn p m = iter (machineOf A g) p (openedAt m)
 
+    -- The Ritz record holds the definition's numbers of the rounds whose products have closed; every place behind them is as it was lent.
+    pub record Recorded (m : Lent A) (s : State A) (l : Lent A) : Type 0 where
+      pub rounds : HoldsRecord A d params g (roundsClosed s) l
+      pub rest : (p : ℕ) → roundsClosed s * (width d + 1) ≤ p → getD (l .ritzRecord) p (A .none) ≡ getD (m .ritzRecord) p (A .none)
+      pub long : length (l .ritzRecord) ≡ length (m .ritzRecord)
+
     -- Some stages are closed; the state is the definition's there, and the lent memory has, beyond that, exactly the work of the chunks that
-    -- are marked. As that stage began, each list showed what the definition says.
+    -- are marked. As that stage began, each list showed what the definition says; the Ritz record shows it now.
     pub record Standing (m : Lent A) (o : Outcome A) : Type 0 where
       pub closed : ℕ
       pub within : closed ≤ stagesOf
       pub state : o .state ≡ stagesOn closed m .state
       pub lent : o .lent ≡ memAt (machineOf A g) (stagesOn closed m .state) (stagesOn closed m .mem) (done (o .marks))
       pub shows : Shows A d params g (stagesOn closed m)
+      pub recorded : Recorded m (o .state) (o .lent)
 
     -- the list of all chunks of every stage, upward, each stage with its closing
     abbrev pub upwardOrder : List Call

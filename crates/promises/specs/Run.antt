@@ -16,7 +16,7 @@ use Rattle.held.specs.Calls.{Call, chunk, close, Machine}
 use Rattle.machine.specs.State.{Asked, lastStage, Lists, State, Lent, askedOf}
 use Rattle.machine.specs.Ranges.{testChunk, testClose, boundSound, alphaSound}
 use Rattle.machine.specs.Work.{work}
-use Rattle.machine.specs.Closing.{closed}
+use Rattle.machine.specs.Closing.{closed, tidied}
 
 -- What the arithmetic owes for a run to stay in range: bounds in [0.1, 0.9995], alphas in (0, 1). `proofs.Ieee` shows it of both widths.
 pub record Steady (A : Arith) : Type 0 where
@@ -31,7 +31,7 @@ module _ (A : Arith) where
   refusing g (chunk h) s m marks = testChunk A s h g m marks .number
   refusing g close s m marks = testClose A s g m marks .number
 
-  -- a run over the lists g, whose graph has n rows: chunks act on the lent lists, closing on the state
+  -- a run over the lists g, whose graph has n rows: chunks act on the lent lists, closing on the state and the Ritz record
   abbrev pub machineOf : Lists A → Machine
   machineOf g = record {
     S = State A;
@@ -40,7 +40,7 @@ module _ (A : Arith) where
     over = λ s. eqb (s .progress .stage) lastStage;
     part = λ s h m. work A s g h m;
     next = λ s m. closed A s m;
-    tidy = λ s m. m;
+    tidy = λ s m. tidied A s m;
     refuse = refusing g;
   }
 

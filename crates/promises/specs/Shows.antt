@@ -9,7 +9,7 @@ use Rattle.definition.specs.MatvecCombine.{matvecCombine}
 use Rattle.definition.specs.Memory.{rowAt, columnAt, vectorOf, wholesOf, blockOf}
 use Rattle.definition.specs.Numbers.{Params, width, chunks}
 use Rattle.definition.specs.OrthonormalizeBlock.{projected, twiceProjected}
-use Rattle.definition.specs.SpectralEmbedding.{inverseOfRow, rootOfRow, rootNorm, v0, edgeColumn, edgeWeight, eigenmap, columnSum, centredMap, scales, seedAt, counts}
+use Rattle.definition.specs.SpectralEmbedding.{inverseOfRow, rootOfRow, rootNorm, v0, edgeColumn, edgeWeight, eigenmap, columnSum, centredMap, scales, seedAt, counts, ritzRecord}
 use Rattle.held.specs.Calls.{Base}
 use Rattle.machine.specs.State.{Stage, stageOf, Lists, State, Lent, blockAt}
 use Rattle.machine.specs.State as stage
@@ -90,6 +90,7 @@ module _ (A : Arith) (d : ℕ) (params : Params) (g : Lists A) where
 
   pub record ShowsPlain (s : State A) (m : Lent A) : Type 0 where
     pub basis : ShowsBasis s m
+    pub bound : s .progress .bound ≡ solvingAt A d params g (s .progress .round) .bound
     pub plain : HoldsBlock (freeBlock (s .progress .current) (s .progress .current))
         (matvecCombine A (operatorOf A d params g) (plainMultipliers A) (roundBlock A d params g (s .progress .round)) (roundBlock A d params g (s .progress .round))) m
 
@@ -106,9 +107,19 @@ module _ (A : Arith) (d : ℕ) (params : Params) (g : Lists A) where
     pub output : HoldsOutput v m
     pub totals : (c : ℕ) → c < d → vectorOf (A .none) (s .totals) c ≡ f c
 
+  pub record ShowsSeed (s : State A) (m : Lent A) : Type 0 where
+    pub seed : HoldsOutput (seedAt A d params (graphIn A g)) m
+    pub counts : s .counts ≡ counts A d params (graphIn A g)
+
+  -- the Ritz record of the first r rounds
+  abbrev pub HoldsRecord : ℕ → Lent A → Type 0
+  HoldsRecord r m = (q j : ℕ) → q < r → j < k + 1 → vectorOf (A .none) (m .ritzRecord) (q * (k + 1) + j) ≡ ritzRecord A d params (graphIn A g) q j
+
+  -- the end: the seed, the counts and the Ritz record of every round
   pub record ShowsEnd (s : State A) (m : Lent A) : Type 0 where
     pub seed : HoldsOutput (seedAt A d params (graphIn A g)) m
     pub counts : s .counts ≡ counts A d params (graphIn A g)
+    pub ritz : HoldsRecord (params .rounds) m
 
   abbrev pub showsBy : Stage → State A → Lent A → Type 0
   showsBy stage.empty s m = Unit
@@ -131,7 +142,7 @@ module _ (A : Arith) (d : ℕ) (params : Params) (g : Lists A) where
   showsBy stage.centre s m = ShowsTotals (columnSum A n (eigenmap A d params (graphIn A g))) (eigenmap A d params (graphIn A g)) s m
   showsBy stage.squares s m = HoldsOutput (centredMap A d params (graphIn A g)) m
   showsBy stage.scale s m = ShowsTotals (scales A d params (graphIn A g)) (centredMap A d params (graphIn A g)) s m
-  showsBy stage.ended s m = ShowsEnd s m
+  showsBy stage.ended s m = ShowsSeed s m
 
   abbrev pub Shows : Base (machineOf A g) → Type 0
   Shows b = showsBy (stageOf (b .state .progress .stage)) (b .state) (b .mem)

@@ -9,7 +9,7 @@ use lib.Dec.{eqb, ltb}
 use lib.ListN.{length, getD}
 use Rattle.digits.specs.Digits.{every}
 use Rattle.reading.specs.declared.OneRead.the-variants as O
-use Rattle.reading.specs.Grammar.{bytesMost, RunNumbers, numbersAt, lineAt, lineCount, largest64, dLine, roundsLine, degreeLine, seedStdLine, startsLine, columnsLine, valuesLine}
+use Rattle.reading.specs.Grammar.{bytesMost, RunNumbers, numbersAt, lineAt, lineCount, largest64, roundsMost, dLine, roundsLine, degreeLine, seedStdLine, startsLine, columnsLine, valuesLine}
 use Rattle.reading.specs.ReadLine.{Found, found, none, lineFrom}
 use Rattle.reading.specs.ReadRun.{Read, run, fault, onLine, one, readLists, readLines, readRun}
 use Rattle.reading.specs.Parts.{lineOf, oneOf, readEntries}
@@ -38,7 +38,7 @@ unfolding every
 fair =
     each-line (λ i. Fair (lineAt i))
     (in-decimal (dLine .name) largest64 1 1 refl (omega arith) (omega arith))
-    (in-decimal (roundsLine .name) largest64 1 1 refl (omega arith) (omega arith))
+    (in-decimal (roundsLine .name) roundsMost 1 1 refl (omega arith) (omega arith))
     (in-decimal (degreeLine .name) largest64 1 1 refl (omega arith) (omega arith))
     (in-hex (seedStdLine .name) 1 1 refl (omega arith))
     (in-decimal (startsLine .name) largest64 0 (startsLine .most) refl (omega arith) (omega arith))

@@ -1,4 +1,5 @@
--- "17 names the first line that is wrong, missing, extra or over a size, or 0 for input over 32 KiB". Definitions only.
+-- "17 names the first line that is wrong, missing, extra or over a size, or 0 for input over 32 KiB"; W1: "rounds above 400 are 17 at line 2".
+-- Definitions only.
 use mathlib.Core.List.{List, [], _++_}
 use mathlib.Core.Path.{_≡_}
 use Prim.Native.Nat.{ℕ, suc, _≤_, _<_}

@@ -16,6 +16,10 @@ startsMost = 65
 abbrev pub entriesMost : ℕ
 entriesMost = 1_024
 
+-- W1: "`seedrun` takes at most 400 rounds from now", so that the Ritz record fits its memory
+abbrev pub roundsMost : ℕ
+roundsMost = 400
+
 -- below 2^64, below 2^32
 abbrev pub largest64 : ℕ
 largest64 = 0xffff_ffff_ffff_ffff
@@ -31,22 +35,22 @@ pub record Line : Type 0 where
   pub fewest : ℕ
   pub most : ℕ
 
--- one decimal, or one float as the hex of its bits
-abbrev pub decimalLine : List ℕ → Line
-decimalLine name = record { name = name; inHex = false; largest = largest64; fewest = 1; most = 1 }
+-- one decimal up to a largest, or one float as the hex of its bits
+abbrev pub decimalLine : List ℕ → ℕ → Line
+decimalLine name largest = record { name = name; inHex = false; largest = largest; fewest = 1; most = 1 }
 
 abbrev pub floatLine : List ℕ → Line
 floatLine name = record { name = name; inHex = true; largest = largest64; fewest = 1; most = 1 }
 
--- "d=", "rounds=", "degree=", "seed_std="
+-- "d=", "rounds=", "degree=", "seed_std="; of these only the rounds have a size
 abbrev pub dLine : Line
-dLine = decimalLine (100 ∷ 61 ∷ [])
+dLine = decimalLine (100 ∷ 61 ∷ []) largest64
 
 abbrev pub roundsLine : Line
-roundsLine = decimalLine (114 ∷ 111 ∷ 117 ∷ 110 ∷ 100 ∷ 115 ∷ 61 ∷ [])
+roundsLine = decimalLine (114 ∷ 111 ∷ 117 ∷ 110 ∷ 100 ∷ 115 ∷ 61 ∷ []) roundsMost
 
 abbrev pub degreeLine : Line
-degreeLine = decimalLine (100 ∷ 101 ∷ 103 ∷ 114 ∷ 101 ∷ 101 ∷ 61 ∷ [])
+degreeLine = decimalLine (100 ∷ 101 ∷ 103 ∷ 114 ∷ 101 ∷ 101 ∷ 61 ∷ []) largest64
 
 abbrev pub seedStdLine : Line
 seedStdLine = floatLine (115 ∷ 101 ∷ 101 ∷ 100 ∷ 95 ∷ 115 ∷ 116 ∷ 100 ∷ 61 ∷ [])

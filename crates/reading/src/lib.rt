@@ -15,6 +15,9 @@ mod exports; // the function that C and Rust call by name
 
 const BYTES_MOST: usize = 32768;
 
+// The Ritz record of so many rounds fits the text program's memory.
+const ROUNDS_MOST: u64 = 400;
+
 // Below 2^64, and below 2^32.
 const LARGEST64: u64 = 0xffff_ffff_ffff_ffff;
 
@@ -153,12 +156,12 @@ fn read_line(
 }
 
 // The line that has one number.
-fn read_one(name: &[u8], bytes: &[u8], from: usize, in_hex: bool) -> OneRead
+fn read_one(name: &[u8], bytes: &[u8], from: usize, in_hex: bool, largest: u64) -> OneRead
     requires { ⌜ Inside (now bytes) from × (length (now name) ≤ 16) ⌝ }
-    ensures { λ r. ⌜ r ≡ oneOf (lineFrom (lineOf (now (name .entry)) in_hex largest64 1 1) (now (bytes .entry)) from) ⌝ }
+    ensures { λ r. ⌜ r ≡ oneOf (lineFrom (lineOf (now (name .entry)) in_hex largest 1 1) (now (bytes .entry)) from) ⌝ }
 {
     let mut numbers = [0u64; 1];
-    match read_line(name, bytes, from, in_hex, LARGEST64, 1, &mut numbers) {
+    match read_line(name, bytes, from, in_hex, largest, 1, &mut numbers) {
         ListRead::Found(_, next) => OneRead::Found(numbers[0], next),
         ListRead::Wrong => OneRead::Wrong,
     }
@@ -171,16 +174,16 @@ fn read_head(bytes: &[u8]) -> HeadRead
     requires { ⌜ length (now bytes) ≤ bytesMost ⌝ }
     ensures { λ r. ⌜ ReadsHead (now (bytes .entry)) r ⌝ }
 {
-    let OneRead::Found(d, at1) = read_one(b"d=", bytes, 0, false) else {
+    let OneRead::Found(d, at1) = read_one(b"d=", bytes, 0, false, LARGEST64) else {
         return HeadRead::Wrong(1);
     };
-    let OneRead::Found(rounds, at2) = read_one(b"rounds=", bytes, at1, false) else {
+    let OneRead::Found(rounds, at2) = read_one(b"rounds=", bytes, at1, false, ROUNDS_MOST) else {
         return HeadRead::Wrong(2);
     };
-    let OneRead::Found(degree, at3) = read_one(b"degree=", bytes, at2, false) else {
+    let OneRead::Found(degree, at3) = read_one(b"degree=", bytes, at2, false, LARGEST64) else {
         return HeadRead::Wrong(3);
     };
-    let OneRead::Found(seed, next) = read_one(b"seed_std=", bytes, at3, true) else {
+    let OneRead::Found(seed, next) = read_one(b"seed_std=", bytes, at3, true, LARGEST64) else {
         return HeadRead::Wrong(4);
     };
     let head = Head {

@@ -14,7 +14,7 @@ use Rattle.definition.specs.Refusals.{Verdict, accepted, refused, given, givenF
 use Rattle.definition.specs.Requirements.{Starts}
 use Rattle.definition.proofs.Chunks.{first-up}
 use Rattle.definition.proofs.Rows.{starts-up}
-use Rattle.machine.specs.State.{Asked, chunkCount, Lists, State, Lent}
+use Rattle.machine.specs.State.{Asked, chunkCount, Lists, State, Lent, withRecord}
 use Rattle.machine.specs.Ranges.{readsEdges, readsStarts, stateSound, isOpen, listsEnough, lentEnough, startsSound, columnsSound, rowsSound, chunkSound, listsSound, soundForChunk, testChunk, soundForClose, testClose}
 use Rattle.machine.specs.Ready.{RowsReady, Ready, Closable}
 use Rattle.machine.proofs.Own.{both, both-of}
@@ -187,7 +187,7 @@ module _ (A : Arith) where
           record {
             state = state-ready A s (state .0);
             lists = graph;
-            lent = lent .0;
+            lent = lent .0 .lists;
             chunk = P .below;
             rows = rows-ready (s .progress .stage) (s .asked) g m h (graph .starts) (P .below) (chunk .1);
           },
@@ -253,8 +253,9 @@ module _ (A : Arith) where
         let lent = lent-ready A (s .asked) m marks (lists .1) in (
           record {
             state = state-ready A s (state .0);
-            v0 = lent .0 .v0;
-            partials = lent .0 .partials;
+            v0 = lent .0 .lists .v0;
+            partials = lent .0 .lists .partials;
+            ritzRecord = lent .0 .ritzRecord;
           },
           P .running,
           P .done,
@@ -272,3 +273,13 @@ module _ (A : Arith) where
     pub close-15 : soundForClose A s g m marks ≡ true → isOpen A s ≡ false → testClose A s g m marks ≡ refused 15 0
     unfolding testClose
     close-15 fit shut = allowed-next (soundForClose A s g m marks) 16 0 _ fit ∙ denied (isOpen A s) 14 0 _ shut
+
+-- ---- a chunk's work asks nothing of the Ritz record, so it is ready beside any
+pub ready-beside : (A : Arith) (s : State A) (h : ℕ) (g : Lists A) (l : List (A .F)) (m : Lent A) → Ready A s h g (withRecord A l m) → Ready A s h g m
+ready-beside A s h g l m R = record {
+  state = R .state;
+  lists = R .lists;
+  lent = omega (arith, R .lent);
+  chunk = R .chunk;
+  rows = record { starts = R .rows .starts; columns = R .rows .columns; edgeColumns = R .rows .edgeColumns };
+}

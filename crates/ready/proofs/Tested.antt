@@ -56,20 +56,21 @@ pub at-none : (f : ℕ → Bool) (a e : ℕ) → a ≤ e → ((i : ℕ) → a �
 unfolding noneFrom
 at-none f a e l h = eq-eqb (firstFrom f a (e - a)) e (omega (arith, all-first f a (e - a) (λ i p q. h i p (omega arith))))
 
--- a fact of each number below ten
-each-of-ten : (f : ℕ → Bool) → f 0 ≡ false → f 1 ≡ false → f 2 ≡ false → f 3 ≡ false → f 4 ≡ false → f 5 ≡ false → f 6 ≡ false
-    → f 7 ≡ false → f 8 ≡ false → f 9 ≡ false → (i : ℕ) → i < 10 → f i ≡ false
-each-of-ten f a0 a1 a2 a3 a4 a5 a6 a7 a8 a9 zero l = a0
-each-of-ten f a0 a1 a2 a3 a4 a5 a6 a7 a8 a9 (suc zero) l = a1
-each-of-ten f a0 a1 a2 a3 a4 a5 a6 a7 a8 a9 (suc (suc zero)) l = a2
-each-of-ten f a0 a1 a2 a3 a4 a5 a6 a7 a8 a9 (suc (suc (suc zero))) l = a3
-each-of-ten f a0 a1 a2 a3 a4 a5 a6 a7 a8 a9 (suc (suc (suc (suc zero)))) l = a4
-each-of-ten f a0 a1 a2 a3 a4 a5 a6 a7 a8 a9 (suc (suc (suc (suc (suc zero))))) l = a5
-each-of-ten f a0 a1 a2 a3 a4 a5 a6 a7 a8 a9 (suc (suc (suc (suc (suc (suc zero)))))) l = a6
-each-of-ten f a0 a1 a2 a3 a4 a5 a6 a7 a8 a9 (suc (suc (suc (suc (suc (suc (suc zero))))))) l = a7
-each-of-ten f a0 a1 a2 a3 a4 a5 a6 a7 a8 a9 (suc (suc (suc (suc (suc (suc (suc (suc zero)))))))) l = a8
-each-of-ten f a0 a1 a2 a3 a4 a5 a6 a7 a8 a9 (suc (suc (suc (suc (suc (suc (suc (suc (suc zero))))))))) l = a9
-each-of-ten f a0 a1 a2 a3 a4 a5 a6 a7 a8 a9 (suc (suc (suc (suc (suc (suc (suc (suc (suc (suc i)))))))))) l = absurd (omega arith)
+-- a fact of each number below eleven
+each-of-eleven : (f : ℕ → Bool) → f 0 ≡ false → f 1 ≡ false → f 2 ≡ false → f 3 ≡ false → f 4 ≡ false → f 5 ≡ false → f 6 ≡ false
+    → f 7 ≡ false → f 8 ≡ false → f 9 ≡ false → f 10 ≡ false → (i : ℕ) → i < 11 → f i ≡ false
+each-of-eleven f a0 a1 a2 a3 a4 a5 a6 a7 a8 a9 a10 zero l = a0
+each-of-eleven f a0 a1 a2 a3 a4 a5 a6 a7 a8 a9 a10 (suc zero) l = a1
+each-of-eleven f a0 a1 a2 a3 a4 a5 a6 a7 a8 a9 a10 (suc (suc zero)) l = a2
+each-of-eleven f a0 a1 a2 a3 a4 a5 a6 a7 a8 a9 a10 (suc (suc (suc zero))) l = a3
+each-of-eleven f a0 a1 a2 a3 a4 a5 a6 a7 a8 a9 a10 (suc (suc (suc (suc zero)))) l = a4
+each-of-eleven f a0 a1 a2 a3 a4 a5 a6 a7 a8 a9 a10 (suc (suc (suc (suc (suc zero))))) l = a5
+each-of-eleven f a0 a1 a2 a3 a4 a5 a6 a7 a8 a9 a10 (suc (suc (suc (suc (suc (suc zero)))))) l = a6
+each-of-eleven f a0 a1 a2 a3 a4 a5 a6 a7 a8 a9 a10 (suc (suc (suc (suc (suc (suc (suc zero))))))) l = a7
+each-of-eleven f a0 a1 a2 a3 a4 a5 a6 a7 a8 a9 a10 (suc (suc (suc (suc (suc (suc (suc (suc zero)))))))) l = a8
+each-of-eleven f a0 a1 a2 a3 a4 a5 a6 a7 a8 a9 a10 (suc (suc (suc (suc (suc (suc (suc (suc (suc zero))))))))) l = a9
+each-of-eleven f a0 a1 a2 a3 a4 a5 a6 a7 a8 a9 a10 (suc (suc (suc (suc (suc (suc (suc (suc (suc (suc zero)))))))))) l = a10
+each-of-eleven f a0 a1 a2 a3 a4 a5 a6 a7 a8 a9 a10 (suc (suc (suc (suc (suc (suc (suc (suc (suc (suc (suc i))))))))))) l = absurd (omega arith)
 
 -- ---- the starts of a chunk's rows
 pub starts-ready : (a : Asked) (starts : List ℕ) (h : ℕ) → a .rows < length starts → startsSound a starts h ≡ true → h < chunkCount a
@@ -131,12 +132,12 @@ columns-sound a starts columns h l R =
     (λ i p q. lt-leb (a .rows) (getD columns i 0) (R .below i p q))
 
 -- ---- lent memory that passes its test is long enough, list by list
-pub lent-each : (a : Asked) (lent : ℕ → ℕ) → passes (testLent (a .dims) (a .rows) (a .entries) lent) ≡ true
-    → (j : ℕ) → j < lentCount → lentSize (a .dims) (a .rows) (a .entries) j ≤ lent j
+pub lent-each : (a : Asked) (lent : ℕ → ℕ) → passes (testLent (a .dims) (a .rounds) (a .rows) (a .entries) lent) ≡ true
+    → (j : ℕ) → j < lentCount → lentSize (a .dims) (a .rounds) (a .rows) (a .entries) j ≤ lent j
 unfolding testLent
 lent-each a lent h j l =
-    let size : ℕ → ℕ = lentSize (a .dims) (a .rows) (a .entries) in
-    ltb-false (lent j) (size j) (none-found (λ i. ltb (lent i) (size i)) 0 lentCount 10 (eqb-true (testLent (a .dims) (a .rows) (a .entries) lent .number) 0 h) j (omega arith) (omega arith))
+    let size : ℕ → ℕ = lentSize (a .dims) (a .rounds) (a .rows) (a .entries) in
+    ltb-false (lent j) (size j) (none-found (λ i. ltb (lent i) (size i)) 0 lentCount 10 (eqb-true (testLent (a .dims) (a .rounds) (a .rows) (a .entries) lent .number) 0 h) j (omega arith) (omega arith))
 
 module _ (A : Arith) where
   -- ---- what was asked
@@ -282,20 +283,23 @@ module _ (A : Arith) where
   unfolding lentEnough lentSizes
   lent-ready a m marks h = (
     record {
-      inverse = long 0 (omega arith);
-      v0 = long 1 (omega arith);
-      edgeColumns = long 2 (omega arith);
-      edgeWeights = long 3 (omega arith);
-      block0 = long 4 (omega arith);
-      block1 = long 5 (omega arith);
-      block2 = long 6 (omega arith);
-      partials = long 7 (omega arith);
-      output = long 9 (omega arith);
+      lists = record {
+        inverse = long 0 (omega arith);
+        v0 = long 1 (omega arith);
+        edgeColumns = long 2 (omega arith);
+        edgeWeights = long 3 (omega arith);
+        block0 = long 4 (omega arith);
+        block1 = long 5 (omega arith);
+        block2 = long 6 (omega arith);
+        partials = long 7 (omega arith);
+        output = long 9 (omega arith);
+      };
+      ritzRecord = long 10 (omega arith);
     },
     long 8 (omega arith),
   )
     where
-      long : (j : ℕ) → j < lentCount → lentSize (a .dims) (a .rows) (a .entries) j ≤ wholesOf (lengthsOf A m marks) j
+      long : (j : ℕ) → j < lentCount → lentSize (a .dims) (a .rounds) (a .rows) (a .entries) j ≤ wholesOf (lengthsOf A m marks) j
       long = lent-each a (wholesOf (lengthsOf A m marks)) h
 
   pub lent-enough : (a : Asked) (m : Lent A) (marks : List ℕ) → LentReady A a m → chunkCount a ≤ length marks → lentEnough A a m marks ≡ true
@@ -303,10 +307,10 @@ module _ (A : Arith) where
   lent-enough a m marks R l = ap (λ (b : Bool). passes (given b 11 (firstFrom short 0 lentCount))) (found-none short 0 lentCount none)
     where
       short : ℕ → Bool
-      short j = ltb (wholesOf (lengthsOf A m marks) j) (lentSize (a .dims) (a .rows) (a .entries) j)
+      short j = ltb (wholesOf (lengthsOf A m marks) j) (lentSize (a .dims) (a .rounds) (a .rows) (a .entries) j)
 
       none : (i : ℕ) → 0 ≤ i → i < 0 + lentCount → short i ≡ false
       none i p q =
-          each-of-ten short (le-ltb _ _ (R .inverse)) (le-ltb _ _ (R .v0)) (le-ltb _ _ (R .edgeColumns)) (le-ltb _ _ (R .edgeWeights))
-          (le-ltb _ _ (R .block0)) (le-ltb _ _ (R .block1)) (le-ltb _ _ (R .block2)) (le-ltb _ _ (R .partials)) (le-ltb _ _ l)
-          (le-ltb _ _ (R .output)) i (omega arith)
+          each-of-eleven short (le-ltb _ _ (R .lists .inverse)) (le-ltb _ _ (R .lists .v0)) (le-ltb _ _ (R .lists .edgeColumns)) (le-ltb _ _ (R .lists .edgeWeights))
+          (le-ltb _ _ (R .lists .block0)) (le-ltb _ _ (R .lists .block1)) (le-ltb _ _ (R .lists .block2)) (le-ltb _ _ (R .lists .partials)) (le-ltb _ _ l)
+          (le-ltb _ _ (R .lists .output)) (le-ltb _ _ (R .ritzRecord)) i (omega arith)

@@ -2,7 +2,7 @@
 -- what it left in the lent lists and the marks. Assumes nothing.
 use mathlib.Core.Path.{_≡_, refl, sym, ap, _∙_}
 use mathlib.Core.Bool.{Bool, true, false, cond, false≢true}
-use mathlib.Core.List.{List}
+use mathlib.Core.List.{List, []}
 use Prim.Native.Nat.{ℕ, suc, _+_, _-_, _≤_}
 use native.Mathlib.Omega.{arith}
 use borrow.Author.Tests.{eq-eqb, ne-eqb}
@@ -14,11 +14,12 @@ use Rattle.definition.specs.Numbers.{Params, chunks, lentSizes, lentSize, lentC
 use Rattle.definition.specs.Refusals.{Verdict, accepted, given, orElse, passes, firstFrom, testDims, testGraph, testParams, testLent, testRequest}
 use Rattle.input.proofs.Accepted.{request-valid}
 use Rattle.held.specs.Marks.{cleared}
-use Rattle.machine.specs.State.{stageOf, chunkCount, Lists, State, Lent, lengthsOf, openedState, emptyState}
+use Rattle.machine.specs.State.{stageOf, chunkCount, Lists, State, Lent, withRecord, lengthsOf, openedState, emptyState}
 use Rattle.machine.specs.Ranges.{testChunk, testClose}
 use Rattle.machine.specs.Work.{work}
-use Rattle.machine.specs.Closing.{closedBy, closed}
+use Rattle.machine.specs.Closing.{closedBy, closed, recordAfter}
 use Rattle.machine.specs.Calls.{outcome, openCall, chunkCall, closeCall}
+use Rattle.machine.proofs.Record.{work-beside}
 use Rattle.ready.proofs.Ready.{chunk-accepted, close-accepted}
 
 -- ---- the code's verdict passes or refuses as the test that it equals
@@ -50,7 +51,7 @@ module _ (A : Arith) (d : ℕ) (p : Params) (g : Lists A) (m : Lent A) (marks : 
   request-accepted : testOpen .number ≡ 0 → testOpen ≡ accepted
   unfolding testRequest testLent
   request-accepted =
-      let short : ℕ → Bool = λ j. ltb (wholesOf (lengthsOf A m marks) j) (lentSize d (length (g .starts) - 1) (length (g .columns)) j) in
+      let short : ℕ → Bool = λ j. ltb (wholesOf (lengthsOf A m marks) j) (lentSize d (p .rounds) (length (g .starts) - 1) (length (g .columns)) j) in
       else-none (testDims d) _
       (else-none (testGraph A (g .starts) (g .columns) (g .values)) _
       (else-none (testParams p) _ (given-none (ltb (firstFrom short 0 lentCount) (0 + lentCount)) 10 (firstFrom short 0 lentCount))))
@@ -78,10 +79,12 @@ module _ (A : Arith) (s : State A) (n : ℕ) (g : Lists A) (m : Lent A) (marks :
   unfolding chunkCall
   chunk-refused h = rw (other-refuses e h, e)
 
-  pub chunk-taken : {after : Lent A} {marked : List ℕ} → v .number ≡ 0 → after ≡ work A s g n m → marked ≡ set marks n 1
-      → outcome A v s after marked ≡ chunkCall A s n g m marks
+  -- the work is shown beside no record at all
+  pub chunk-taken : {after : Lent A} {marked : List ℕ} → v .number ≡ 0 → after ≡ work A s g n (withRecord A [] m) → marked ≡ set marks n 1
+      → outcome A v s (withRecord A (m .ritzRecord) after) marked ≡ chunkCall A s n g m marks
   unfolding chunkCall
-  chunk-taken h w l = rw (zero-passes e h, e ∙ chunk-accepted A s n g m marks (zero-passes e h), w, l)
+  chunk-taken h w l =
+      rw (zero-passes e h, e ∙ chunk-accepted A s n g m marks (zero-passes e h), ap (withRecord A (m .ritzRecord)) w ∙ sym (work-beside A (m .ritzRecord) s g n (withRecord A [] m)), l)
 
 -- ---- closing
 module _ (A : Arith) (s : State A) (g : Lists A) (m : Lent A) (marks : List ℕ) {v : Verdict} (e : v ≡ testClose A s g m marks) where
@@ -89,7 +92,7 @@ module _ (A : Arith) (s : State A) (g : Lists A) (m : Lent A) (marks : List ℕ)
   unfolding closeCall
   close-refused h = rw (other-refuses e h, e)
 
-  pub close-taken : {next : State A} {marked : List ℕ} → v .number ≡ 0 → next ≡ closedBy A (stageOf (s .progress .stage)) s (m .v0) (m .partials)
-      → marked ≡ cleared (chunkCount (s .asked)) marks → outcome A v next m marked ≡ closeCall A s g m marks
+  pub close-taken : {next : State A} {marked : List ℕ} {ritz : List (A .F)} → v .number ≡ 0 → next ≡ closedBy A (stageOf (s .progress .stage)) s (m .v0) (m .partials)
+      → marked ≡ cleared (chunkCount (s .asked)) marks → ritz ≡ recordAfter A s next (m .ritzRecord) → outcome A v next (withRecord A ritz m) marked ≡ closeCall A s g m marks
   unfolding closeCall closed
-  close-taken h r l = rw (zero-passes e h, e ∙ close-accepted A s g m marks (zero-passes e h), r, l)
+  close-taken h r l w = rw (zero-passes e h, e ∙ close-accepted A s g m marks (zero-passes e h), w, r, l)

@@ -6,7 +6,7 @@ ghost use Rattle.definition.specs.Arith.{ieee64};
 ghost use Rattle.machine.specs.Ready.{Ready};
 ghost use Rattle.machine.specs.Work.{work};
 ghost use Rattle.machine.specs.Calls.{chunkCall};
-ghost use Rattle.state.specs.Said.{stateIn, listsIn, lentIn, outcomeIn};
+ghost use Rattle.state.specs.Said.{stateIn, listsIn, lentIn, lentAll, outcomeIn};
 use columns::marks::set_mark;
 use state::Answer;
 use state::State;
@@ -58,7 +58,7 @@ pub fn work_chunk(
     );
 }
 
-// Does the work of chunk `number` in the state's stage, and marks it done. The state stays as it is.
+// Does the work of chunk `number` in the state's stage, and marks it done. The state and the Ritz record stay as they are.
 pub fn chunk(
     state: State,
     number: usize,
@@ -75,14 +75,15 @@ pub fn chunk(
     partials: &mut [f64],
     marks: &mut [u8],
     output: &mut [f64],
+    ritz_record: &[f64],
 ) -> Answer
     ensures { λ r. ⌜ outcomeIn r
-        (lentIn (now (inverse .exit)) (now (v0 .exit)) (now («edge_columns» .exit)) (now («edge_weights» .exit))
-        (now (block0 .exit)) (now (block1 .exit)) (now (block2 .exit)) (now (partials .exit)) (now (output .exit)))
+        (lentAll (now (inverse .exit)) (now (v0 .exit)) (now («edge_columns» .exit)) (now («edge_weights» .exit))
+        (now (block0 .exit)) (now (block1 .exit)) (now (block2 .exit)) (now (partials .exit)) (now (output .exit)) (now («ritz_record» .entry)))
         (now (marks .exit))
         ≡ chunkCall ieee64 (stateIn state) number (listsIn (now (starts .entry)) (now (columns .entry)) (now (values .entry)))
-        (lentIn (now (inverse .entry)) (now (v0 .entry)) (now («edge_columns» .entry)) (now («edge_weights» .entry))
-        (now (block0 .entry)) (now (block1 .entry)) (now (block2 .entry)) (now (partials .entry)) (now (output .entry)))
+        (lentAll (now (inverse .entry)) (now (v0 .entry)) (now («edge_columns» .entry)) (now («edge_weights» .entry))
+        (now (block0 .entry)) (now (block1 .entry)) (now (block2 .entry)) (now (partials .entry)) (now (output .entry)) (now («ritz_record» .entry)))
         (now (marks .entry)) ⌝ }
 {
     let lengths = [
@@ -94,6 +95,7 @@ pub fn chunk(
         block2.len(),
         partials.len(),
         output.len(),
+        ritz_record.len(),
     ];
     let verdict = guard::test_chunk(
         state,

@@ -6,7 +6,7 @@ ghost use Rattle.definition.specs.Arith.{ieee64};
 ghost use Rattle.input.specs.Said.{paramsOf};
 ghost use Rattle.machine.specs.State.{begunAt, openedState, emptyState};
 ghost use Rattle.machine.specs.Calls.{openCall};
-ghost use Rattle.state.specs.Said.{askedIn, stateIn, listsIn, lentIn, outcomeIn};
+ghost use Rattle.state.specs.Said.{askedIn, stateIn, listsIn, lentAll, outcomeIn};
 use columns::marks::clear_marks;
 use input::SpectralParams;
 use state::Answer;
@@ -100,14 +100,15 @@ pub fn open(
     partials: &[f64],
     marks: &mut [u8],
     output: &[f64],
+    ritz_record: &[f64],
 ) -> Answer
     ensures { λ r. ⌜ outcomeIn r
-        (lentIn (now (inverse .entry)) (now (v0 .entry)) (now («edge_columns» .entry)) (now («edge_weights» .entry))
-        (now (block0 .entry)) (now (block1 .entry)) (now (block2 .entry)) (now (partials .entry)) (now (output .entry)))
+        (lentAll (now (inverse .entry)) (now (v0 .entry)) (now («edge_columns» .entry)) (now («edge_weights» .entry))
+        (now (block0 .entry)) (now (block1 .entry)) (now (block2 .entry)) (now (partials .entry)) (now (output .entry)) (now («ritz_record» .entry)))
         (now (marks .exit))
         ≡ openCall ieee64 d (paramsOf params) (listsIn (now (starts .entry)) (now (columns .entry)) (now (values .entry)))
-        (lentIn (now (inverse .entry)) (now (v0 .entry)) (now («edge_columns» .entry)) (now («edge_weights» .entry))
-        (now (block0 .entry)) (now (block1 .entry)) (now (block2 .entry)) (now (partials .entry)) (now (output .entry)))
+        (lentAll (now (inverse .entry)) (now (v0 .entry)) (now («edge_columns» .entry)) (now («edge_weights» .entry))
+        (now (block0 .entry)) (now (block1 .entry)) (now (block2 .entry)) (now (partials .entry)) (now (output .entry)) (now («ritz_record» .entry)))
         (now (marks .entry)) ⌝ }
 {
     let lengths = [
@@ -121,6 +122,7 @@ pub fn open(
         partials.len(),
         marks.len(),
         output.len(),
+        ritz_record.len(),
     ];
     let verdict = input::test_request(d, params, starts, columns, values, lengths);
     if verdict.number != 0 {

@@ -17,9 +17,10 @@ pub record Same (m₀ : Lent ieee64) (marks₀ : List ℕ) (m : Lent ieee64) (ma
   pub partials : length (m .partials) ≡ length (m₀ .partials)
   pub marked : length marks ≡ length marks₀
   pub output : length (m .output) ≡ length (m₀ .output)
+  pub ritzRecord : length (m .ritzRecord) ≡ length (m₀ .ritzRecord)
 
 pub same : (m : Lent ieee64) (marks : List ℕ) → Same m marks m marks
-same m marks = record { inverse = refl; v0 = refl; edgeColumns = refl; edgeWeights = refl; block0 = refl; block1 = refl; block2 = refl; partials = refl; marked = refl; output = refl }
+same m marks = record { inverse = refl; v0 = refl; edgeColumns = refl; edgeWeights = refl; block0 = refl; block1 = refl; block2 = refl; partials = refl; marked = refl; output = refl; ritzRecord = refl }
 
 pub same-on : {m₀ m₁ m₂ : Lent ieee64} {marks₀ marks₁ marks₂ : List ℕ} → Same m₀ marks₀ m₁ marks₁ → Same m₁ marks₁ m₂ marks₂ → Same m₀ marks₀ m₂ marks₂
 same-on S T = record {
@@ -33,4 +34,5 @@ same-on S T = record {
   partials = T .partials ∙ S .partials;
   marked = T .marked ∙ S .marked;
   output = T .output ∙ S .output;
+  ritzRecord = T .ritzRecord ∙ S .ritzRecord;
 }

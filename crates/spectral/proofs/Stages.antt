@@ -1,10 +1,10 @@
 -- The stages of an accepted request, one after the other, to the run's end. Assumes nothing.
 use mathlib.Core.Path.{_≡_, refl, sym, ap, ap₂, _∙_, subst}
-use mathlib.Core.List.{List}
+use mathlib.Core.List.{List, []}
 use Prim.Native.Nat.{ℕ, _+_, _-_, _*_, _≤_, _<_}
 use native.Mathlib.Nat.{mul-le-mul-left}
 use native.Mathlib.Omega.{arith}
-use lib.Ieee.{binary64}
+use lib.Ieee.{Float, binary64}
 use lib.ListN.{length}
 use Rattle.definition.specs.Arith.{ieee64}
 use Rattle.definition.specs.Memory.{fillRange}
@@ -13,10 +13,12 @@ use Rattle.definition.specs.SpectralEmbedding.{Counts, counts}
 use Rattle.definition.proofs.Fill.{split, fill-over, fill-length}
 use Rattle.held.specs.Calls.{Base, iter}
 use Rattle.held.specs.Marks.{cleared}
-use Rattle.machine.specs.State.{Asked, stageOf, chunkCount, lastStage, Lists, State, Lent, askedOf, begunAt, openedState}
+use Rattle.machine.specs.State.{Asked, stageOf, chunkCount, lastStage, Lists, State, Lent, withRecord, askedOf, begunAt, openedState}
 use Rattle.machine.specs.Ready.{Ready, Closable, CountsReady}
-use Rattle.machine.specs.Closing.{closedBy, closed}
+use Rattle.machine.specs.Closing.{closedBy, closed, recordAfter, tidied}
+use Rattle.machine.proofs.Record.{whole-beside}
 use Rattle.ready.proofs.Tested.{state-ready}
+use Rattle.ready.proofs.Ready.{ready-beside}
 use Rattle.promises.specs.Run.{machineOf, graphIn}
 use Rattle.promises.specs.Promises.{Accepted, stagesOf, stagesOn}
 use Rattle.promises.specs.OneCall.{midway, endOf}
@@ -74,6 +76,10 @@ module _ {d : ℕ} {params : Params} {g : Lists ieee64} {m : Lent ieee64} {marks
   midway-here : (h : ℕ) → doneUp s g h l ≡ midway ieee64 d params g p h m
   midway-here h = ap₂ (λ (x : State ieee64) (y : Lent ieee64). doneUp x g h y) (at .state) (at .lent)
 
+  -- chunks work beside the record: as beside none
+  beside-here : (h : ℕ) → doneUp s g h l ≡ withRecord ieee64 (l .ritzRecord) (doneUp s g h (withRecord ieee64 [] l))
+  beside-here h = whole-beside ieee64 (l .ritzRecord) s g h (withRecord ieee64 [] l)
+
   -- a run that has not ended has a stage to come
   pub to-come : (s .progress .stage ≡ lastStage → ⊥) → p < all d params g m marks
   to-come f =
@@ -82,11 +88,12 @@ module _ {d : ℕ} {params : Params} {g : Lists ieee64} {m : Lent ieee64} {marks
       absurd (f (ap (λ (x : State ieee64). x .progress .stage) (at .state ∙ ap (λ (i : ℕ). here d params g m marks i .state) e) ∙ end-ended ieee64 (steady binary64) d params g m marks ok)))
 
   -- each chunk of it will be ready, and has a mark
-  pub chunks-ready : (h : ℕ) → h < chunkCount (s .asked) → Ready ieee64 s h g (doneUp s g h l)
+  pub chunks-ready : (h : ℕ) → h < chunkCount (s .asked) → Ready ieee64 s h g (doneUp s g h (withRecord ieee64 [] l))
   chunks-ready h q =
-      subst (λ (x : Lent ieee64). Ready ieee64 s h g x) (sym (midway-here h))
+      ready-beside ieee64 s h g (l .ritzRecord) (doneUp s g h (withRecord ieee64 [] l))
+      (subst (λ (x : Lent ieee64). Ready ieee64 s h g x) (sym (midway-here h) ∙ beside-here h)
       (subst (λ (x : State ieee64). Ready ieee64 x h g (midway ieee64 d params g p h m)) (sym (at .state))
-      (midway-ready ieee64 (steady binary64) d params g m marks ok p h (at .within) (omega (arith, chunks-here))))
+      (midway-ready ieee64 (steady binary64) d params g m marks ok p h (at .within) (omega (arith, chunks-here)))))
 
   pub marks-here : chunkCount (s .asked) ≤ length k
   marks-here = omega (arith, chunks-here, ap length (at .marked), marks-enough ieee64 (steady binary64) d params g m marks ok)
@@ -95,9 +102,14 @@ module _ {d : ℕ} {params : Params} {g : Lists ieee64} {m : Lent ieee64} {marks
   marks-done e = omega (arith, marks-here, ap length e, fill-length 0 (chunkCount (s .asked)) (λ j. 1) k)
 
   -- where all chunks are done it can be closed, and the next one begins
-  module _ {l' : Lent ieee64} (done : l' ≡ doneUp s g (chunkCount (s .asked)) l) where
+  module _ {y : Lent ieee64} (done : y ≡ doneUp s g (chunkCount (s .asked)) (withRecord ieee64 [] l)) where
+    abbrev l' : Lent ieee64
+    l' = withRecord ieee64 (l .ritzRecord) y
+
     done-here : l' ≡ midway ieee64 d params g p (chunks (length (g .starts) - 1)) m
-    done-here = done ∙ ap (λ (c : ℕ). doneUp s g c l) chunks-here ∙ midway-here (chunks (length (g .starts) - 1))
+    done-here =
+        ap (withRecord ieee64 (l .ritzRecord)) done ∙ sym (beside-here (chunkCount (s .asked)))
+        ∙ ap (λ (c : ℕ). doneUp s g c l) chunks-here ∙ midway-here (chunks (length (g .starts) - 1))
 
     pub closable : Closable ieee64 s l'
     closable =
@@ -106,16 +118,19 @@ module _ {d : ℕ} {params : Params} {g : Lists ieee64} {m : Lent ieee64} {marks
         (midway-closable ieee64 (steady binary64) d params g m marks ok p (at .within)))
 
     module _ {k' : List ℕ} (marked : k' ≡ fillRange 0 (chunkCount (s .asked)) (λ j. 1) k) where
-      pub closed-next : {s' : State ieee64} {k'' : List ℕ} → p < all d params g m marks → s' ≡ closedBy ieee64 (stageOf (s .progress .stage)) s (l' .v0) (l' .partials)
-          → k'' ≡ cleared (chunkCount (s .asked)) k' → marks ≡ cleared (chunkCount (askedOf ieee64 d params g)) marks → At d params g m marks (p + 1) s' l' k''
+      pub closed-next : {s' : State ieee64} {k'' : List ℕ} {ritz : List Float} → p < all d params g m marks → s' ≡ closedBy ieee64 (stageOf (s .progress .stage)) s (y .v0) (y .partials)
+          → k'' ≡ cleared (chunkCount (s .asked)) k' → ritz ≡ recordAfter ieee64 s s' (l .ritzRecord) → marks ≡ cleared (chunkCount (askedOf ieee64 d params g)) marks
+          → At d params g m marks (p + 1) s' (withRecord ieee64 ritz y) k''
       unfolding closed cleared
-      closed-next {s'} {k''} q e c z =
+      closed-next {s'} {k''} {ritz} q e c w z =
           let n = stage-next ieee64 (steady binary64) d params g m marks ok p in
           let L = midway ieee64 d params g p (chunks (length (g .starts) - 1)) m in
           record {
             within = omega arith;
             state = e ∙ ap₂ (λ (x : State ieee64) (y : Lent ieee64). closed ieee64 x y) (at .state) done-here ∙ ap (λ (b : Base (machineOf ieee64 g)). b .state) (sym n);
-            lent = done-here ∙ ap (λ (b : Base (machineOf ieee64 g)). b .mem) (sym n);
+            lent =
+                ap (λ (r : List Float). withRecord ieee64 r y) (w ∙ ap (λ (x : State ieee64). recordAfter ieee64 s x (l .ritzRecord)) e)
+                ∙ ap₂ (λ (x : State ieee64) (v : Lent ieee64). tidied ieee64 x v) (at .state) done-here ∙ ap (λ (b : Base (machineOf ieee64 g)). b .mem) (sym n);
             marked =
                 c ∙ ap (cleared (chunkCount (s .asked))) marked ∙ fill-over 0 (chunkCount (s .asked)) (λ j. 0) (λ j. 1) k
                 ∙ ap₂ cleared chunks-here (at .marked) ∙ sym z;

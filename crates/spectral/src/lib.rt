@@ -10,7 +10,7 @@ ghost use Rattle.machine.specs.State.{chunkCount, openedState};
 ghost use Rattle.machine.specs.Ready.{Ready};
 ghost use Rattle.promises.specs.Promises.{Accepted};
 ghost use Rattle.promises.specs.OneCall.{wholeCall, endOf};
-ghost use Rattle.state.specs.Said.{askedIn, countsIn, stateIn, listsIn, lentIn};
+ghost use Rattle.state.specs.Said.{askedIn, countsIn, stateIn, listsIn, lentIn, lentAll};
 ghost use Rattle.spectral.specs.Said.{wholeIn, doneUp, paramsAsked};
 use input::SpectralParams;
 use input::Verdict;
@@ -94,19 +94,20 @@ fn all_stages(
     partials: &mut [f64],
     marks: &mut [u8],
     output: &mut [f64],
+    ritz_record: &mut [f64],
 ) -> Counts
     requires { ⌜ Accepted ieee64 (state .asked .dims) (paramsAsked (askedIn (state .asked))) (listsIn (now starts) (now columns) (now values))
-        (lentIn (now inverse) (now v0) (now «edge_columns») (now «edge_weights») (now block0) (now block1) (now block2) (now partials) (now output)) (now marks) ⌝ }
+        (lentAll (now inverse) (now v0) (now «edge_columns») (now «edge_weights») (now block0) (now block1) (now block2) (now partials) (now output) (now «ritz_record»)) (now marks) ⌝ }
     requires { ⌜ stateIn state ≡ openedState ieee64 (state .asked .dims) (paramsAsked (askedIn (state .asked))) (listsIn (now starts) (now columns) (now values)) ⌝ }
     requires { ⌜ now marks ≡ cleared (chunkCount (askedIn (state .asked))) (now marks) ⌝ }
     ensures { λ r. ⌜ countsIn r ≡ endOf ieee64 (state .asked .dims) (paramsAsked (askedIn (state .asked))) (listsIn (now (starts .entry)) (now (columns .entry)) (now (values .entry)))
-        (lentIn (now (inverse .entry)) (now (v0 .entry)) (now («edge_columns» .entry)) (now («edge_weights» .entry))
-        (now (block0 .entry)) (now (block1 .entry)) (now (block2 .entry)) (now (partials .entry)) (now (output .entry))) .state .counts ⌝ }
-    ensures { λ _. ⌜ lentIn (now (inverse .exit)) (now (v0 .exit)) (now («edge_columns» .exit)) (now («edge_weights» .exit))
-        (now (block0 .exit)) (now (block1 .exit)) (now (block2 .exit)) (now (partials .exit)) (now (output .exit))
+        (lentAll (now (inverse .entry)) (now (v0 .entry)) (now («edge_columns» .entry)) (now («edge_weights» .entry))
+        (now (block0 .entry)) (now (block1 .entry)) (now (block2 .entry)) (now (partials .entry)) (now (output .entry)) (now («ritz_record» .entry))) .state .counts ⌝ }
+    ensures { λ _. ⌜ lentAll (now (inverse .exit)) (now (v0 .exit)) (now («edge_columns» .exit)) (now («edge_weights» .exit))
+        (now (block0 .exit)) (now (block1 .exit)) (now (block2 .exit)) (now (partials .exit)) (now (output .exit)) (now («ritz_record» .exit))
         ≡ endOf ieee64 (state .asked .dims) (paramsAsked (askedIn (state .asked))) (listsIn (now (starts .entry)) (now (columns .entry)) (now (values .entry)))
-        (lentIn (now (inverse .entry)) (now (v0 .entry)) (now («edge_columns» .entry)) (now («edge_weights» .entry))
-        (now (block0 .entry)) (now (block1 .entry)) (now (block2 .entry)) (now (partials .entry)) (now (output .entry))) .mem ⌝ }
+        (lentAll (now (inverse .entry)) (now (v0 .entry)) (now («edge_columns» .entry)) (now («edge_weights» .entry))
+        (now (block0 .entry)) (now (block1 .entry)) (now (block2 .entry)) (now (partials .entry)) (now (output .entry)) (now («ritz_record» .entry))) .mem ⌝ }
     ensures { λ _. ⌜ now (marks .exit) ≡ now (marks .entry) ⌝ }
 {
     let mut reached = state;
@@ -133,16 +134,17 @@ fn all_stages(
             marks,
             output,
         );
-        reached = run::close_stage(reached, v0, partials, marks);
+        reached = run::close_stage(reached, v0, partials, marks, ritz_record);
         left -= 1;
     }
     reached.counts
 }
 
-// The seed of a graph: every lent list is left as the run's end leaves it, the seed in `output`. Refusals are 1 to 11; a refused call changes
+// The seed of a graph: every lent list is left as the run's end leaves it, the seed in `output`,
+// each round's bound and Ritz values in `ritz_record`. Refusals are 1 to 11; a refused call changes
 // no lent number. It does what the held run does, in one call and in one order.
 //
-// Argument order as in crate `run`: what is asked, the graph, the lent memory in document 01's order 0 to 9.
+// Argument order as in crate `run`: what is asked, the graph, the lent memory in document 01's order 0 to 10.
 pub fn spectral_embedding(
     d: u64,
     params: SpectralParams,
@@ -159,14 +161,15 @@ pub fn spectral_embedding(
     partials: &mut [f64],
     marks: &mut [u8],
     output: &mut [f64],
+    ritz_record: &mut [f64],
 ) -> Embedded
     ensures { λ r. ⌜ wholeIn r
-        (lentIn (now (inverse .exit)) (now (v0 .exit)) (now («edge_columns» .exit)) (now («edge_weights» .exit))
-        (now (block0 .exit)) (now (block1 .exit)) (now (block2 .exit)) (now (partials .exit)) (now (output .exit)))
+        (lentAll (now (inverse .exit)) (now (v0 .exit)) (now («edge_columns» .exit)) (now («edge_weights» .exit))
+        (now (block0 .exit)) (now (block1 .exit)) (now (block2 .exit)) (now (partials .exit)) (now (output .exit)) (now («ritz_record» .exit)))
         (now (marks .exit))
         ≡ wholeCall ieee64 d (paramsOf params) (listsIn (now (starts .entry)) (now (columns .entry)) (now (values .entry)))
-        (lentIn (now (inverse .entry)) (now (v0 .entry)) (now («edge_columns» .entry)) (now («edge_weights» .entry))
-        (now (block0 .entry)) (now (block1 .entry)) (now (block2 .entry)) (now (partials .entry)) (now (output .entry)))
+        (lentAll (now (inverse .entry)) (now (v0 .entry)) (now («edge_columns» .entry)) (now («edge_weights» .entry))
+        (now (block0 .entry)) (now (block1 .entry)) (now (block2 .entry)) (now (partials .entry)) (now (output .entry)) (now («ritz_record» .entry)))
         (now (marks .entry)) ⌝ }
 {
     let opened = run::open(
@@ -185,6 +188,7 @@ pub fn spectral_embedding(
         &partials[..],
         marks,
         &output[..],
+        &ritz_record[..],
     );
     let verdict = opened.verdict;
     if verdict.number != 0 {
@@ -212,6 +216,7 @@ pub fn spectral_embedding(
         partials,
         marks,
         output,
+        ritz_record,
     );
     Embedded { verdict, counts }
 }

@@ -12,7 +12,7 @@ use Rattle.definition.specs.MatvecCombine.{Multipliers}
 use Rattle.definition.proofs.Fill.{split}
 use Rattle.machine.specs.State.{Stage, ended, stageOf, Asked, Lists, Progress, State, Lent}
 use Rattle.machine.specs.Ranges.{readsStarts, readsEdges}
-use Rattle.machine.specs.Ready.{LentReady, Ready}
+use Rattle.machine.specs.Ready.{WorkReady, Ready}
 use Rattle.machine.specs.Work.{filterMultipliers, passWork, workBy, work}
 use Rattle.blocks.specs.Chosen.{BlocksReady, EdgesReady}
 
@@ -69,7 +69,7 @@ module _ (s : State ieee64) (g : Lists ieee64) (h : ℕ) (m : Lent ieee64) where
   idle-arm p = arm (s .progress .stage) refl (idle (s .progress .stage) p)
 
 -- ---- what the stages over blocks may rest on
-pub blocks-ready : {a : Asked} {m : Lent ieee64} → LentReady ieee64 a m → BlocksReady a (m .block0) (m .block1) (m .block2)
+pub blocks-ready : {a : Asked} {m : Lent ieee64} → WorkReady ieee64 a m → BlocksReady a (m .block0) (m .block1) (m .block2)
 blocks-ready r = record { first = r .block0; second = r .block1; third = r .block2 }
 
 pub edges-ready : {s : State ieee64} {h : ℕ} {g : Lists ieee64} {m : Lent ieee64} → Ready ieee64 s h g m → readsStarts (s .progress .stage) ≡ true

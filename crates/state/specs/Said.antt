@@ -1,5 +1,5 @@
 -- The code's records as the machine's, at binary64. Definitions only.
-use mathlib.Core.List.{List}
+use mathlib.Core.List.{List, []}
 use Prim.Native.Nat.{ℕ}
 use lib.Ieee.{Float}
 use Rattle.definition.specs.Arith.{ieee64}
@@ -25,7 +25,7 @@ countsIn t = record { passes = t .passes; refreshed = t .refreshed; zeroed = t .
 abbrev pub stateIn : State → machine.State ieee64
 stateIn s = record { asked = askedIn (s .asked); progress = progressIn (s .progress); counts = countsIn (s .counts); totals = s .totals; matrix = s .matrix; vectors = s .vectors; order = s .order }
 
--- the graph's lists, and the lent ones in document 01's order
+-- the graph's lists, and the lent ones in document 01's order: those that chunks work on, with no Ritz record, and all of them
 abbrev pub listsIn : List ℕ → List ℕ → List Float → machine.Lists ieee64
 listsIn starts columns values = record { starts = starts; columns = columns; values = values }
 
@@ -40,7 +40,12 @@ lentIn inverse v0 edgeColumns edgeWeights block0 block1 block2 partials output =
   block2 = block2;
   partials = partials;
   output = output;
+  ritzRecord = [];
 }
+
+abbrev pub lentAll : List Float → List Float → List ℕ → List Float → List Float → List Float → List Float → List Float → List Float → List Float → machine.Lent ieee64
+lentAll inverse v0 edgeColumns edgeWeights block0 block1 block2 partials output ritzRecord =
+    machine.withRecord ieee64 ritzRecord (lentIn inverse v0 edgeColumns edgeWeights block0 block1 block2 partials output)
 
 -- what a call answered and left
 abbrev pub outcomeIn : Answer → machine.Lent ieee64 → List ℕ → Outcome ieee64

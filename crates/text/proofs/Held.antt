@@ -12,7 +12,7 @@ use Rattle.digits.specs.Placed.{put}
 use Rattle.digits.specs.declared.Written.{Written}
 use Rattle.digits.specs.declared.Written.the-variants.{To, Short}
 use Rattle.printing.specs.Printed.{refusalText, room}
-use Rattle.reading.specs.Grammar.{RunNumbers, startsMost, entriesMost}
+use Rattle.reading.specs.Grammar.{RunNumbers, startsMost, entriesMost, roundsMost}
 use Rattle.reading.specs.ReadRun.{Read, run, fault, readRun, recordOf, floatsOf, padded}
 use Rattle.reading.specs.declared.RunFile.{RunFile}
 use Rattle.reading.proofs.Runs.{run-sound}
@@ -47,19 +47,20 @@ part-length n l h = sym (length-take n l ∙ omega (arith, h))
 -- ---- a record of the reader
 -- the sizes of what was read
 abbrev Sized : Read → Type 0
-Sized (run f) = (length (f .starts) ≤ startsMost) × (length (f .columns) ≤ entriesMost) × (length (f .values) ≤ entriesMost)
+Sized (run f) = (length (f .starts) ≤ startsMost) × (length (f .columns) ≤ entriesMost) × (length (f .values) ≤ entriesMost) × (f .rounds ≤ roundsMost)
 Sized (fault k) = Unit {0}
 
 sized : (bytes : List ℕ) → Sized (readRun bytes)
 sized bytes = go (readRun bytes) refl
   where
     go : (x : Read) → readRun bytes ≡ x → Sized x
-    go (run f) e = let r = run-sound bytes f e .right in (r 4 (omega arith) .most, r 5 (omega arith) .most, r 6 (omega arith) .most)
+    go (run f) e = let r = run-sound bytes f e .right in (r 4 (omega arith) .most, r 5 (omega arith) .most, r 6 (omega arith) .most, r 1 (omega arith) .largest 0 (omega arith))
     go (fault k) e = tt
 
 -- what a right record holds, so that its parts can be lent on, and whose answer it has
 pub record Right (file : RunFile) (text : List ℕ) : Type 0 where
   pub counts : (file .«start_count» ≤ 65) × (file .«column_count» ≤ 1024) × (file .«value_count» ≤ 1024)
+  pub rounds : file .rounds ≤ 400
   pub starts : length (file .starts) ≡ 65
   pub columns : length (file .columns) ≡ 1024
   pub values : length (file .values) ≡ 1024
@@ -68,7 +69,8 @@ pub record Right (file : RunFile) (text : List ℕ) : Type 0 where
 right-read : (x : Read) → Sized x → recordOf x .«is_right» ≡ true → Right (recordOf x) (answerFor x)
 unfolding recordOf
 right-read (run f) z e = record {
-  counts = z;
+  counts = (z .0, z .1, z .2);
+  rounds = z .3;
   starts = padded-length startsMost (f .starts) (z .0);
   columns = padded-length entriesMost (f .columns) (z .1);
   values = length-floats (padded entriesMost (f .values)) ∙ padded-length entriesMost (f .values) (z .2);

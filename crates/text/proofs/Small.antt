@@ -11,7 +11,7 @@ use lib.Ieee.{Float, binary64, nan}
 use lib.ListN.{length, getD}
 use Rattle.definition.specs.Arith.{ieee64}
 use Rattle.definition.specs.Memory.{wholesOf, place, blockOf}
-use Rattle.definition.specs.Numbers.{Params, chunks, lentSizes, lentSize}
+use Rattle.definition.specs.Numbers.{Params, chunks, lentSizes, lentSize, lentCount}
 use Rattle.definition.specs.Refusals.{Verdict, accepted, passes, given, firstFrom, orElse, testDims, testGraph, testParams, testLent, testRequest}
 use Rattle.definition.specs.SpectralEmbedding.{Counts}
 use Rattle.definition.proofs.First.{all-first}
@@ -42,22 +42,23 @@ all-le (x ∷ xs) (y ∷ ys) h zero = h .0
 all-le (x ∷ xs) (y ∷ ys) h (suc j) = all-le xs ys (h .1) j
 
 -- ---- 11 is not met
-lent-accepted : (d n m : ℕ) (lent : ℕ → ℕ) → ((j : ℕ) → lentSize d n m j ≤ lent j) → testLent d n m lent ≡ accepted
+lent-accepted : (d rounds n m : ℕ) (lent : ℕ → ℕ) → ((j : ℕ) → lentSize d rounds n m j ≤ lent j) → testLent d rounds n m lent ≡ accepted
 unfolding testLent
-lent-accepted d n m lent h =
-    ap (λ (x : ℕ). given (ltb x 10) 11 x)
-    (all-first (λ j. ltb (lent j) (lentSize d n m j)) 0 10 (λ i p q. le-ltb (lent i) (lentSize d n m i) (h i)))
+lent-accepted d rounds n m lent h =
+    ap (λ (x : ℕ). given (ltb x lentCount) 11 x)
+    (all-first (λ j. ltb (lent j) (lentSize d rounds n m j)) 0 lentCount (λ i p q. le-ltb (lent i) (lentSize d rounds n m i) (h i)))
 
 one-chunk : (n : ℕ) → n ≤ 64 → chunks n ≤ 1
 unfolding chunks
 one-chunk n l = omega arith
 
-sizes-most : (d n m : ℕ) → d ≤ 7 → n ≤ 64 → m ≤ 1024 → AllLe (lentSizes d n m) lengths
+sizes-most : (d rounds n m : ℕ) → d ≤ 7 → rounds ≤ 400 → n ≤ 64 → m ≤ 1024 → AllLe (lentSizes d rounds n m) lengths
 unfolding lentSizes
-sizes-most d n m p q r =
+sizes-most d rounds n m p t q r =
     let w : d + 8 ≤ 15 = omega arith in
+    let x : d + 8 + 1 ≤ 16 = omega arith in
     let c : chunks n * (d + 8) ≤ 1 * 15 = mul-le-mul (one-chunk n q) w in
-    (q, (q, (r, (r, (mul-le-mul q w, (mul-le-mul q w, (mul-le-mul q w, (mul-le-mul c w, (one-chunk n q, (mul-le-mul q p, tt))))))))))
+    (q, (q, (r, (r, (mul-le-mul q w, (mul-le-mul q w, (mul-le-mul q w, (mul-le-mul c w, (one-chunk n q, (mul-le-mul q p, (mul-le-mul t x, tt)))))))))))
 
 -- the first test decides, or what comes after is the same
 else-alike : (v w w' : Verdict) → (v .number ≡ 0 → w ≡ w') → orElse v w ≡ orElse v w'
@@ -67,7 +68,7 @@ else-alike v w w' h = by (eqb (v .number) 0) refl where
   by true e = h (eqb-true (v .number) 0 e)
   by false e = refl
 
-module _ (d : ℕ) (params : Params) (g : Lists ieee64) (few : length (g .starts) ≤ 65) (small : length (g .columns) ≤ 1024) where
+module _ (d : ℕ) (params : Params) (g : Lists ieee64) (few : length (g .starts) ≤ 65) (small : length (g .columns) ≤ 1024) (brief : params .rounds ≤ 400) where
   abbrev rows : ℕ
   rows = length (g .starts) - 1
 
@@ -77,13 +78,13 @@ module _ (d : ℕ) (params : Params) (g : Lists ieee64) (few : length (g .starts
   same-test lent h =
       else-alike (testDims d) _ _
       (λ e. let p = dims-valid d e .1 in
-      let most = all-le (lentSizes d rows (length (g .columns))) lengths (sizes-most d rows (length (g .columns)) p (omega (arith, few)) small) in
-      let a = lent-accepted d rows (length (g .columns)) lent (λ j. let u = most j in let v = h j in omega (arith, u, v)) in
-      let b = lent-accepted d rows (length (g .columns)) (lentSize d rows (length (g .columns))) (λ j. omega arith) in
+      let most = all-le (lentSizes d (params .rounds) rows (length (g .columns))) lengths (sizes-most d (params .rounds) rows (length (g .columns)) p brief (omega (arith, few)) small) in
+      let a = lent-accepted d (params .rounds) rows (length (g .columns)) lent (λ j. let u = most j in let v = h j in omega (arith, u, v)) in
+      let b = lent-accepted d (params .rounds) rows (length (g .columns)) (lentSize d (params .rounds) rows (length (g .columns))) (λ j. omega arith) in
       ap (λ (v : Verdict). orElse (testGraph ieee64 (g .starts) (g .columns) (g .values)) (orElse (testParams params) v)) (a ∙ sym b))
 
 -- ---- the call, as its contract has it
-module _ (d : ℕ) (params : Params) (g : Lists ieee64) (few : length (g .starts) ≤ 65) (small : length (g .columns) ≤ 1024) (m : Lent ieee64) (marks : List ℕ) (long : (j : ℕ) → wholesOf lengths j ≤ wholesOf (lengthsOf ieee64 m marks) j) where
+module _ (d : ℕ) (params : Params) (g : Lists ieee64) (few : length (g .starts) ≤ 65) (small : length (g .columns) ≤ 1024) (brief : params .rounds ≤ 400) (m : Lent ieee64) (marks : List ℕ) (long : (j : ℕ) → wholesOf lengths j ≤ wholesOf (lengthsOf ieee64 m marks) j) where
   abbrev tests : Verdict
   tests = testRequest ieee64 d params (g .starts) (g .columns) (g .values) (wholesOf (lengthsOf ieee64 m marks))
 
@@ -99,15 +100,15 @@ module _ (d : ℕ) (params : Params) (g : Lists ieee64) (few : length (g .starts
       let shows = whole-shows ieee64 (steady binary64) d params g m marks ok in
       record {
         refused = λ f. absurd (f refl);
-        taken = λ z. sym (ap (λ (v : Verdict). v .number) (same-test d params g few small (wholesOf (lengthsOf ieee64 m marks)) long)) ∙ ok;
-        long = λ z. here-fit ieee64 (steady binary64) d params g m marks ok (stagesOf ieee64 d params g) (omega arith) .lent .output;
+        taken = λ z. sym (ap (λ (v : Verdict). v .number) (same-test d params g few small brief (wholesOf (lengthsOf ieee64 m marks)) long)) ∙ ok;
+        long = λ z. here-fit ieee64 (steady binary64) d params g m marks ok (stagesOf ieee64 d params g) (omega arith) .lent .lists .output;
         counted = λ z. shows .counts;
         seeded = λ z. shows .seed;
       }
 
   stayed : (tests .number ≡ 0 → ⊥) → Embedding (refusedWhole ieee64 tests m marks)
   stayed non = record {
-    refused = λ f. same-test d params g few small (wholesOf (lengthsOf ieee64 m marks)) long;
+    refused = λ f. same-test d params g few small brief (wholesOf (lengthsOf ieee64 m marks)) long;
     taken = λ z. absurd (non z);
     long = λ z. absurd (non z);
     counted = λ z. absurd (non z);
@@ -159,15 +160,15 @@ module _ (d : ℕ) (params : Params) (starts columns : List ℕ) (values : List 
   -- a request that passes has at most 7 dimensions
   pub few-dims : v .number ≡ 0 → d ≤ 7
   unfolding testAsked
-  few-dims z = request-valid ieee64 starts columns values d params (lentSize d (length starts - 1) (length columns)) (e .taken z) .dims-most
+  few-dims z = request-valid ieee64 starts columns values d params (lentSize d (params .rounds) (length starts - 1) (length columns)) (e .taken z) .dims-most
 
 -- the same of the code's records, where the lent lists have the lengths of the program's memory
 pub embeds-in : {d : ℕ} {params : Params} {starts columns : List ℕ} {values : List Float} (r : Embedded) (m : Lent ieee64) (marks : List ℕ) {after : Lent ieee64} {marked : List ℕ}
     → wholeIn r after marked ≡ wholeCall ieee64 d params (listsIn starts columns values) m marks
-    → length starts ≤ 65 → length columns ≤ 1024 → lengthsOf ieee64 m marks ≡ lengths
+    → length starts ≤ 65 → length columns ≤ 1024 → params .rounds ≤ 400 → lengthsOf ieee64 m marks ≡ lengths
     → Embeds d params starts columns values (verdictOf (r .verdict)) (countsIn (r .counts)) (after .output)
-embeds-in {d} {params} {starts} {columns} {values} r m marks {after} {marked} h few small same =
-    embeds d params (listsIn starts columns values) few small m marks (λ j. subst (λ (l : List ℕ). wholesOf lengths j ≤ wholesOf l j) (sym same) (omega arith)) (wholeIn r after marked) h
+embeds-in {d} {params} {starts} {columns} {values} r m marks {after} {marked} h few small brief same =
+    embeds d params (listsIn starts columns values) few small brief m marks (λ j. subst (λ (l : List ℕ). wholesOf lengths j ≤ wholesOf l j) (sym same) (omega arith)) (wholeIn r after marked) h
 
 -- another text that is the same
 pub printed : {text answer after : List ℕ} {r : ℕ} (out : List ℕ) → text ≡ answer → (r ≡ length text) × (r ≤ room) × (after ≡ put text 0 out)

@@ -14,7 +14,7 @@ use Rattle.printing.specs.Printed.{refusalText, seedText}
 module _ (d : ℕ) (params : Params) (starts columns : List ℕ) (values : List Float) where
   -- refusals 1 to 10: the memory is as long as document 01 asks, so that 11 is not met
   unfoldable pub testAsked : Verdict
-  testAsked = testRequest ieee64 d params starts columns values (lentSize d (length starts - 1) (length columns))
+  testAsked = testRequest ieee64 d params starts columns values (lentSize d (params .rounds) (length starts - 1) (length columns))
 
   abbrev pub seedOf : ℕ → ℕ → Float
   seedOf = seedAt ieee64 d params (graphOf ieee64 starts columns values)
@@ -37,6 +37,6 @@ module _ (d : ℕ) (params : Params) (starts columns : List ℕ) (values : List 
     pub counted : verdict .number ≡ 0 → found ≡ countsOf
     pub seeded : verdict .number ≡ 0 → (i c : ℕ) → i < length starts - 1 → c < d → getD output (i * d + c) nan ≡ seedOf i c
 
--- the lengths of the program's own memory, 0 to 9: enough for 64 rows, 1,024 entries and 7 dimensions
+-- the lengths of the program's own memory, 0 to 10: enough for 64 rows, 1,024 entries, 7 dimensions and 400 rounds
 abbrev pub lengths : List ℕ
-lengths = 64 ∷ 64 ∷ 1_024 ∷ 1_024 ∷ 960 ∷ 960 ∷ 960 ∷ 225 ∷ 1 ∷ 448 ∷ []
+lengths = 64 ∷ 64 ∷ 1_024 ∷ 1_024 ∷ 960 ∷ 960 ∷ 960 ∷ 225 ∷ 1 ∷ 448 ∷ 6_400 ∷ []

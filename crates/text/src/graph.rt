@@ -10,7 +10,7 @@ ghost use Rattle.text.specs.Small.{Embeds, answerOf};
 use input::SpectralParams;
 use spectral::Embedded;
 
-// The one call in memory for 64 rows, 1,024 entries and 7 dimensions; the seed is in `output`.
+// The one call in memory for 64 rows, 1,024 entries, 7 dimensions and 400 rounds; the seed is in `output`. The Ritz record is not printed.
 fn embed(
     d: u64,
     params: SpectralParams,
@@ -19,7 +19,7 @@ fn embed(
     values: &[f64],
     output: &mut [f64],
 ) -> Embedded
-    requires { ⌜ (length (now starts) ≤ 65) × (length (now columns) ≤ 1024) × (length (now output) ≡ 448) ⌝ }
+    requires { ⌜ (length (now starts) ≤ 65) × (length (now columns) ≤ 1024) × (length (now output) ≡ 448) × (params .rounds ≤ 400) ⌝ }
     ensures { λ r. ⌜ Embeds d (paramsOf params) (now (starts .entry)) (now (columns .entry)) (now (values .entry)) (verdictOf (r .verdict)) (countsIn (r .counts)) (now (output .exit)) ⌝ }
 {
     let mut inverse = [0.0; 64];
@@ -31,6 +31,7 @@ fn embed(
     let mut block2 = [0.0; 960];
     let mut partials = [0.0; 225];
     let mut marks = [0u8; 1];
+    let mut ritz_record = [0.0; 6400];
     spectral::spectral_embedding(
         d,
         params,
@@ -47,6 +48,7 @@ fn embed(
         &mut partials,
         &mut marks,
         output,
+        &mut ritz_record,
     )
 }
 
@@ -59,7 +61,7 @@ pub fn answer_graph(
     values: &[f64],
     out: &mut [u8],
 ) -> usize
-    requires { ⌜ (length (now starts) ≤ 65) × (length (now columns) ≤ 1024) × (room ≤ length (now out)) ⌝ }
+    requires { ⌜ (length (now starts) ≤ 65) × (length (now columns) ≤ 1024) × (room ≤ length (now out)) × (params .rounds ≤ 400) ⌝ }
     ensures { λ r. ⌜ (r ≡ length (answerOf d (paramsOf params) (now (starts .entry)) (now (columns .entry)) (now (values .entry)))) × (r ≤ room)
         × (now (out .exit) ≡ put (answerOf d (paramsOf params) (now (starts .entry)) (now (columns .entry)) (now (values .entry))) 0 (now (out .entry))) ⌝ }
 {

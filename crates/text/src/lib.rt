@@ -20,6 +20,7 @@ pub const ROOM: usize = 8192;
 // The answer for a run file that was read, from the first byte on; the place behind it.
 fn answer_run(file: RunFile, out: &mut [u8]) -> usize
     requires { ⌜ (file .«start_count» ≤ 65) × (file .«column_count» ≤ 1024) × (file .«value_count» ≤ 1024) ⌝ }
+    requires { ⌜ file .rounds ≤ 400 ⌝ }
     requires { ⌜ (length (file .starts) ≡ 65) × (length (file .columns) ≡ 1024) × (length (file .values) ≡ 1024) × (room ≤ length (now out)) ⌝ }
     ensures { λ r. ⌜ (r ≡ length (answerHeld file)) × (r ≤ room) × (now (out .exit) ≡ put (answerHeld file) 0 (now (out .entry))) ⌝ }
 {

@@ -1,4 +1,4 @@
--- A stage that fills places of one lent list, as sets of places in all nine: what it keeps, whose the places are, and what it reads. Assumes nothing.
+-- A stage that fills places of one lent list, as sets of places in all ten: what it keeps, whose the places are, and what it reads. Assumes nothing.
 use mathlib.Core.Path.{_≡_, refl, sym, ap, _∙_}
 use mathlib.Core.Bool.{Bool, true, false, not, false≢true}
 use mathlib.Core.List.{List}
@@ -50,7 +50,7 @@ module _ {E : Type 0} where
 
 module _ (A : Arith) where
   pub same-lengths : (m : Lent A) → SameLengths A m m
-  same-lengths m = record { inverse = refl; v0 = refl; edgeColumns = refl; edgeWeights = refl; block0 = refl; block1 = refl; block2 = refl; partials = refl; output = refl }
+  same-lengths m = record { inverse = refl; v0 = refl; edgeColumns = refl; edgeWeights = refl; block0 = refl; block1 = refl; block2 = refl; partials = refl; output = refl; ritzRecord = refl }
 
   pub agree-same : (t : Places) (m : Lent A) → AgreeWhere A t m m
   agree-same t m = record {
@@ -63,13 +63,15 @@ module _ (A : Arith) where
     block2 = λ p o. refl;
     partials = λ p o. refl;
     output = λ p o. refl;
+    ritzRecord = λ p o. refl;
   }
 
-  -- the nine lists make the memory
+  -- the ten lists make the memory
   pub same-lent : (m m′ : Lent A) → m .inverse ≡ m′ .inverse → m .v0 ≡ m′ .v0 → m .edgeColumns ≡ m′ .edgeColumns → m .edgeWeights ≡ m′ .edgeWeights
-      → m .block0 ≡ m′ .block0 → m .block1 ≡ m′ .block1 → m .block2 ≡ m′ .block2 → m .partials ≡ m′ .partials → m .output ≡ m′ .output → m ≡ m′
-  same-lent m m′ a b c d e f g k l =
-      λ i. record { inverse = a i; v0 = b i; edgeColumns = c i; edgeWeights = d i; block0 = e i; block1 = f i; block2 = g i; partials = k i; output = l i }
+      → m .block0 ≡ m′ .block0 → m .block1 ≡ m′ .block1 → m .block2 ≡ m′ .block2 → m .partials ≡ m′ .partials → m .output ≡ m′ .output
+      → m .ritzRecord ≡ m′ .ritzRecord → m ≡ m′
+  same-lent m m′ a b c d e f g k l o =
+      λ i. record { inverse = a i; v0 = b i; edgeColumns = c i; edgeWeights = d i; block0 = e i; block1 = f i; block2 = g i; partials = k i; output = l i; ritzRecord = o i }
 
   -- memories that differ at other chunks' places agree at the chunk's own
   pub own-same : (whose : ℕ → Places) → OneOwner whose → (h : ℕ) (m m′ : Lent A) → DifferAt A whose h m m′ → AgreeWhere A (whose h) m m′
@@ -83,6 +85,7 @@ module _ (A : Arith) where
     block2 = λ p o. D .block2 p (owned-alone (λ j. whose j .block2) (one .block2) h p o);
     partials = λ p o. D .partials p (owned-alone (λ j. whose j .partials) (one .partials) h p o);
     output = λ p o. D .output p (owned-alone (λ j. whose j .output) (one .output) h p o);
+    ritzRecord = λ p o. D .ritzRecord p (owned-alone (λ j. whose j .ritzRecord) (one .ritzRecord) h p o);
   }
 
   -- ---- a list that no chunk writes is the same list
@@ -114,7 +117,10 @@ module _ (A : Arith) where
     pub output-same : ((j p : ℕ) → whose j .output p ≡ false) → m .output ≡ m′ .output
     output-same u = same-list (A .none) (m .output) (m′ .output) (D .lengths .output) (λ p. D .output p (λ j ne. u j p))
 
-  -- ---- one lent list L, and the sets of places of all nine that lie in it
+    pub record-same : ((j p : ℕ) → whose j .ritzRecord p ≡ false) → m .ritzRecord ≡ m′ .ritzRecord
+    record-same u = same-list (A .none) (m .ritzRecord) (m′ .ritzRecord) (D .lengths .ritzRecord) (λ p. D .ritzRecord p (λ j ne. u j p))
+
+  -- ---- one lent list L, and the sets of places of all ten that lie in it
   pub record Listed {E : Type 0} (L : Lens (Lent A) E) (d : E) (inL : (ℕ → Bool) → Places) : Type 0 where
     -- the list put: as long, the same outside of a set, the same inside
     pub lengths : (l : List E) (m : Lent A) → length l ≡ length (L .get m) → SameLengths A (L .put l m) m
@@ -128,82 +134,88 @@ module _ (A : Arith) where
 
   pub v0-listed : Listed (v0L A) (A .none) inV0
   v0-listed = record {
-    lengths = λ l m e. record { inverse = refl; v0 = e; edgeColumns = refl; edgeWeights = refl; block0 = refl; block1 = refl; block2 = refl; partials = refl; output = refl };
-    outer = λ t l m e. record { inverse = λ p o. refl; v0 = λ p o. e p (not-true (t p) o); edgeColumns = λ p o. refl; edgeWeights = λ p o. refl; block0 = λ p o. refl; block1 = λ p o. refl; block2 = λ p o. refl; partials = λ p o. refl; output = λ p o. refl };
-    inner = λ t m m′ e. record { inverse = λ p. never; v0 = e; edgeColumns = λ p. never; edgeWeights = λ p. never; block0 = λ p. never; block1 = λ p. never; block2 = λ p. never; partials = λ p. never; output = λ p. never };
-    once = λ own e. record { inverse = nobody; v0 = e; edgeColumns = nobody; edgeWeights = nobody; block0 = nobody; block1 = nobody; block2 = nobody; partials = nobody; output = nobody };
+    lengths = λ l m e. record { inverse = refl; v0 = e; edgeColumns = refl; edgeWeights = refl; block0 = refl; block1 = refl; block2 = refl; partials = refl; output = refl; ritzRecord = refl };
+    outer = λ t l m e. record { inverse = λ p o. refl; v0 = λ p o. e p (not-true (t p) o); edgeColumns = λ p o. refl; edgeWeights = λ p o. refl; block0 = λ p o. refl; block1 = λ p o. refl; block2 = λ p o. refl; partials = λ p o. refl; output = λ p o. refl; ritzRecord = λ p o. refl };
+    inner = λ t m m′ e. record { inverse = λ p. never; v0 = e; edgeColumns = λ p. never; edgeWeights = λ p. never; block0 = λ p. never; block1 = λ p. never; block2 = λ p. never; partials = λ p. never; output = λ p. never; ritzRecord = λ p. never };
+    once = λ own e. record { inverse = nobody; v0 = e; edgeColumns = nobody; edgeWeights = nobody; block0 = nobody; block1 = nobody; block2 = nobody; partials = nobody; output = nobody; ritzRecord = nobody };
     long = λ own h m m′ D. D .lengths .v0;
     mine = λ own h m m′ D. D .v0;
     rest = λ own h m m′ D. same-lent (withV0 A (m′ .v0) m) m′
         (inverse-same (λ j. inV0 (own j)) h m m′ D (λ j p. refl)) refl (columns-same (λ j. inV0 (own j)) h m m′ D (λ j p. refl))
         (weights-same (λ j. inV0 (own j)) h m m′ D (λ j p. refl)) (block0-same (λ j. inV0 (own j)) h m m′ D (λ j p. refl)) (block1-same (λ j. inV0 (own j)) h m m′ D (λ j p. refl))
-        (block2-same (λ j. inV0 (own j)) h m m′ D (λ j p. refl)) (partials-same (λ j. inV0 (own j)) h m m′ D (λ j p. refl)) (output-same (λ j. inV0 (own j)) h m m′ D (λ j p. refl));
+        (block2-same (λ j. inV0 (own j)) h m m′ D (λ j p. refl)) (partials-same (λ j. inV0 (own j)) h m m′ D (λ j p. refl)) (output-same (λ j. inV0 (own j)) h m m′ D (λ j p. refl))
+        (record-same (λ j. inV0 (own j)) h m m′ D (λ j p. refl));
   }
 
   pub partials-listed : Listed (partialsL A) (A .none) inPartials
   partials-listed = record {
-    lengths = λ l m e. record { inverse = refl; v0 = refl; edgeColumns = refl; edgeWeights = refl; block0 = refl; block1 = refl; block2 = refl; partials = e; output = refl };
-    outer = λ t l m e. record { inverse = λ p o. refl; v0 = λ p o. refl; edgeColumns = λ p o. refl; edgeWeights = λ p o. refl; block0 = λ p o. refl; block1 = λ p o. refl; block2 = λ p o. refl; partials = λ p o. e p (not-true (t p) o); output = λ p o. refl };
-    inner = λ t m m′ e. record { inverse = λ p. never; v0 = λ p. never; edgeColumns = λ p. never; edgeWeights = λ p. never; block0 = λ p. never; block1 = λ p. never; block2 = λ p. never; partials = e; output = λ p. never };
-    once = λ own e. record { inverse = nobody; v0 = nobody; edgeColumns = nobody; edgeWeights = nobody; block0 = nobody; block1 = nobody; block2 = nobody; partials = e; output = nobody };
+    lengths = λ l m e. record { inverse = refl; v0 = refl; edgeColumns = refl; edgeWeights = refl; block0 = refl; block1 = refl; block2 = refl; partials = e; output = refl; ritzRecord = refl };
+    outer = λ t l m e. record { inverse = λ p o. refl; v0 = λ p o. refl; edgeColumns = λ p o. refl; edgeWeights = λ p o. refl; block0 = λ p o. refl; block1 = λ p o. refl; block2 = λ p o. refl; partials = λ p o. e p (not-true (t p) o); output = λ p o. refl; ritzRecord = λ p o. refl };
+    inner = λ t m m′ e. record { inverse = λ p. never; v0 = λ p. never; edgeColumns = λ p. never; edgeWeights = λ p. never; block0 = λ p. never; block1 = λ p. never; block2 = λ p. never; partials = e; output = λ p. never; ritzRecord = λ p. never };
+    once = λ own e. record { inverse = nobody; v0 = nobody; edgeColumns = nobody; edgeWeights = nobody; block0 = nobody; block1 = nobody; block2 = nobody; partials = e; output = nobody; ritzRecord = nobody };
     long = λ own h m m′ D. D .lengths .partials;
     mine = λ own h m m′ D. D .partials;
     rest = λ own h m m′ D. same-lent (withPartials A (m′ .partials) m) m′
         (inverse-same (λ j. inPartials (own j)) h m m′ D (λ j p. refl)) (v0-same (λ j. inPartials (own j)) h m m′ D (λ j p. refl)) (columns-same (λ j. inPartials (own j)) h m m′ D (λ j p. refl))
         (weights-same (λ j. inPartials (own j)) h m m′ D (λ j p. refl)) (block0-same (λ j. inPartials (own j)) h m m′ D (λ j p. refl)) (block1-same (λ j. inPartials (own j)) h m m′ D (λ j p. refl))
-        (block2-same (λ j. inPartials (own j)) h m m′ D (λ j p. refl)) refl (output-same (λ j. inPartials (own j)) h m m′ D (λ j p. refl));
+        (block2-same (λ j. inPartials (own j)) h m m′ D (λ j p. refl)) refl (output-same (λ j. inPartials (own j)) h m m′ D (λ j p. refl))
+        (record-same (λ j. inPartials (own j)) h m m′ D (λ j p. refl));
   }
 
   pub output-listed : Listed (outputL A) (A .none) inOutput
   output-listed = record {
-    lengths = λ l m e. record { inverse = refl; v0 = refl; edgeColumns = refl; edgeWeights = refl; block0 = refl; block1 = refl; block2 = refl; partials = refl; output = e };
-    outer = λ t l m e. record { inverse = λ p o. refl; v0 = λ p o. refl; edgeColumns = λ p o. refl; edgeWeights = λ p o. refl; block0 = λ p o. refl; block1 = λ p o. refl; block2 = λ p o. refl; partials = λ p o. refl; output = λ p o. e p (not-true (t p) o) };
-    inner = λ t m m′ e. record { inverse = λ p. never; v0 = λ p. never; edgeColumns = λ p. never; edgeWeights = λ p. never; block0 = λ p. never; block1 = λ p. never; block2 = λ p. never; partials = λ p. never; output = e };
-    once = λ own e. record { inverse = nobody; v0 = nobody; edgeColumns = nobody; edgeWeights = nobody; block0 = nobody; block1 = nobody; block2 = nobody; partials = nobody; output = e };
+    lengths = λ l m e. record { inverse = refl; v0 = refl; edgeColumns = refl; edgeWeights = refl; block0 = refl; block1 = refl; block2 = refl; partials = refl; output = e; ritzRecord = refl };
+    outer = λ t l m e. record { inverse = λ p o. refl; v0 = λ p o. refl; edgeColumns = λ p o. refl; edgeWeights = λ p o. refl; block0 = λ p o. refl; block1 = λ p o. refl; block2 = λ p o. refl; partials = λ p o. refl; output = λ p o. e p (not-true (t p) o); ritzRecord = λ p o. refl };
+    inner = λ t m m′ e. record { inverse = λ p. never; v0 = λ p. never; edgeColumns = λ p. never; edgeWeights = λ p. never; block0 = λ p. never; block1 = λ p. never; block2 = λ p. never; partials = λ p. never; output = e; ritzRecord = λ p. never };
+    once = λ own e. record { inverse = nobody; v0 = nobody; edgeColumns = nobody; edgeWeights = nobody; block0 = nobody; block1 = nobody; block2 = nobody; partials = nobody; output = e; ritzRecord = nobody };
     long = λ own h m m′ D. D .lengths .output;
     mine = λ own h m m′ D. D .output;
     rest = λ own h m m′ D. same-lent (withOutput A (m′ .output) m) m′
         (inverse-same (λ j. inOutput (own j)) h m m′ D (λ j p. refl)) (v0-same (λ j. inOutput (own j)) h m m′ D (λ j p. refl)) (columns-same (λ j. inOutput (own j)) h m m′ D (λ j p. refl))
         (weights-same (λ j. inOutput (own j)) h m m′ D (λ j p. refl)) (block0-same (λ j. inOutput (own j)) h m m′ D (λ j p. refl)) (block1-same (λ j. inOutput (own j)) h m m′ D (λ j p. refl))
-        (block2-same (λ j. inOutput (own j)) h m m′ D (λ j p. refl)) (partials-same (λ j. inOutput (own j)) h m m′ D (λ j p. refl)) refl;
+        (block2-same (λ j. inOutput (own j)) h m m′ D (λ j p. refl)) (partials-same (λ j. inOutput (own j)) h m m′ D (λ j p. refl)) refl
+        (record-same (λ j. inOutput (own j)) h m m′ D (λ j p. refl));
   }
 
   pub block-listed : (b : ℕ) → Listed (blockL A b) (A .none) (inBlock b)
   block-listed zero = record {
-    lengths = λ l m e. record { inverse = refl; v0 = refl; edgeColumns = refl; edgeWeights = refl; block0 = e; block1 = refl; block2 = refl; partials = refl; output = refl };
-    outer = λ t l m e. record { inverse = λ p o. refl; v0 = λ p o. refl; edgeColumns = λ p o. refl; edgeWeights = λ p o. refl; block0 = λ p o. e p (not-true (t p) o); block1 = λ p o. refl; block2 = λ p o. refl; partials = λ p o. refl; output = λ p o. refl };
-    inner = λ t m m′ e. record { inverse = λ p. never; v0 = λ p. never; edgeColumns = λ p. never; edgeWeights = λ p. never; block0 = e; block1 = λ p. never; block2 = λ p. never; partials = λ p. never; output = λ p. never };
-    once = λ own e. record { inverse = nobody; v0 = nobody; edgeColumns = nobody; edgeWeights = nobody; block0 = e; block1 = nobody; block2 = nobody; partials = nobody; output = nobody };
+    lengths = λ l m e. record { inverse = refl; v0 = refl; edgeColumns = refl; edgeWeights = refl; block0 = e; block1 = refl; block2 = refl; partials = refl; output = refl; ritzRecord = refl };
+    outer = λ t l m e. record { inverse = λ p o. refl; v0 = λ p o. refl; edgeColumns = λ p o. refl; edgeWeights = λ p o. refl; block0 = λ p o. e p (not-true (t p) o); block1 = λ p o. refl; block2 = λ p o. refl; partials = λ p o. refl; output = λ p o. refl; ritzRecord = λ p o. refl };
+    inner = λ t m m′ e. record { inverse = λ p. never; v0 = λ p. never; edgeColumns = λ p. never; edgeWeights = λ p. never; block0 = e; block1 = λ p. never; block2 = λ p. never; partials = λ p. never; output = λ p. never; ritzRecord = λ p. never };
+    once = λ own e. record { inverse = nobody; v0 = nobody; edgeColumns = nobody; edgeWeights = nobody; block0 = e; block1 = nobody; block2 = nobody; partials = nobody; output = nobody; ritzRecord = nobody };
     long = λ own h m m′ D. D .lengths .block0;
     mine = λ own h m m′ D. D .block0;
     rest = λ own h m m′ D. same-lent (withBlock A 0 (m′ .block0) m) m′
         (inverse-same (λ j. inBlock 0 (own j)) h m m′ D (λ j p. refl)) (v0-same (λ j. inBlock 0 (own j)) h m m′ D (λ j p. refl)) (columns-same (λ j. inBlock 0 (own j)) h m m′ D (λ j p. refl))
         (weights-same (λ j. inBlock 0 (own j)) h m m′ D (λ j p. refl)) refl (block1-same (λ j. inBlock 0 (own j)) h m m′ D (λ j p. refl))
-        (block2-same (λ j. inBlock 0 (own j)) h m m′ D (λ j p. refl)) (partials-same (λ j. inBlock 0 (own j)) h m m′ D (λ j p. refl)) (output-same (λ j. inBlock 0 (own j)) h m m′ D (λ j p. refl));
+        (block2-same (λ j. inBlock 0 (own j)) h m m′ D (λ j p. refl)) (partials-same (λ j. inBlock 0 (own j)) h m m′ D (λ j p. refl)) (output-same (λ j. inBlock 0 (own j)) h m m′ D (λ j p. refl))
+        (record-same (λ j. inBlock 0 (own j)) h m m′ D (λ j p. refl));
   }
   block-listed (suc zero) = record {
-    lengths = λ l m e. record { inverse = refl; v0 = refl; edgeColumns = refl; edgeWeights = refl; block0 = refl; block1 = e; block2 = refl; partials = refl; output = refl };
-    outer = λ t l m e. record { inverse = λ p o. refl; v0 = λ p o. refl; edgeColumns = λ p o. refl; edgeWeights = λ p o. refl; block0 = λ p o. refl; block1 = λ p o. e p (not-true (t p) o); block2 = λ p o. refl; partials = λ p o. refl; output = λ p o. refl };
-    inner = λ t m m′ e. record { inverse = λ p. never; v0 = λ p. never; edgeColumns = λ p. never; edgeWeights = λ p. never; block0 = λ p. never; block1 = e; block2 = λ p. never; partials = λ p. never; output = λ p. never };
-    once = λ own e. record { inverse = nobody; v0 = nobody; edgeColumns = nobody; edgeWeights = nobody; block0 = nobody; block1 = e; block2 = nobody; partials = nobody; output = nobody };
+    lengths = λ l m e. record { inverse = refl; v0 = refl; edgeColumns = refl; edgeWeights = refl; block0 = refl; block1 = e; block2 = refl; partials = refl; output = refl; ritzRecord = refl };
+    outer = λ t l m e. record { inverse = λ p o. refl; v0 = λ p o. refl; edgeColumns = λ p o. refl; edgeWeights = λ p o. refl; block0 = λ p o. refl; block1 = λ p o. e p (not-true (t p) o); block2 = λ p o. refl; partials = λ p o. refl; output = λ p o. refl; ritzRecord = λ p o. refl };
+    inner = λ t m m′ e. record { inverse = λ p. never; v0 = λ p. never; edgeColumns = λ p. never; edgeWeights = λ p. never; block0 = λ p. never; block1 = e; block2 = λ p. never; partials = λ p. never; output = λ p. never; ritzRecord = λ p. never };
+    once = λ own e. record { inverse = nobody; v0 = nobody; edgeColumns = nobody; edgeWeights = nobody; block0 = nobody; block1 = e; block2 = nobody; partials = nobody; output = nobody; ritzRecord = nobody };
     long = λ own h m m′ D. D .lengths .block1;
     mine = λ own h m m′ D. D .block1;
     rest = λ own h m m′ D. same-lent (withBlock A 1 (m′ .block1) m) m′
         (inverse-same (λ j. inBlock 1 (own j)) h m m′ D (λ j p. refl)) (v0-same (λ j. inBlock 1 (own j)) h m m′ D (λ j p. refl)) (columns-same (λ j. inBlock 1 (own j)) h m m′ D (λ j p. refl))
         (weights-same (λ j. inBlock 1 (own j)) h m m′ D (λ j p. refl)) (block0-same (λ j. inBlock 1 (own j)) h m m′ D (λ j p. refl)) refl
-        (block2-same (λ j. inBlock 1 (own j)) h m m′ D (λ j p. refl)) (partials-same (λ j. inBlock 1 (own j)) h m m′ D (λ j p. refl)) (output-same (λ j. inBlock 1 (own j)) h m m′ D (λ j p. refl));
+        (block2-same (λ j. inBlock 1 (own j)) h m m′ D (λ j p. refl)) (partials-same (λ j. inBlock 1 (own j)) h m m′ D (λ j p. refl)) (output-same (λ j. inBlock 1 (own j)) h m m′ D (λ j p. refl))
+        (record-same (λ j. inBlock 1 (own j)) h m m′ D (λ j p. refl));
   }
   block-listed (suc (suc b)) = record {
-    lengths = λ l m e. record { inverse = refl; v0 = refl; edgeColumns = refl; edgeWeights = refl; block0 = refl; block1 = refl; block2 = e; partials = refl; output = refl };
-    outer = λ t l m e. record { inverse = λ p o. refl; v0 = λ p o. refl; edgeColumns = λ p o. refl; edgeWeights = λ p o. refl; block0 = λ p o. refl; block1 = λ p o. refl; block2 = λ p o. e p (not-true (t p) o); partials = λ p o. refl; output = λ p o. refl };
-    inner = λ t m m′ e. record { inverse = λ p. never; v0 = λ p. never; edgeColumns = λ p. never; edgeWeights = λ p. never; block0 = λ p. never; block1 = λ p. never; block2 = e; partials = λ p. never; output = λ p. never };
-    once = λ own e. record { inverse = nobody; v0 = nobody; edgeColumns = nobody; edgeWeights = nobody; block0 = nobody; block1 = nobody; block2 = e; partials = nobody; output = nobody };
+    lengths = λ l m e. record { inverse = refl; v0 = refl; edgeColumns = refl; edgeWeights = refl; block0 = refl; block1 = refl; block2 = e; partials = refl; output = refl; ritzRecord = refl };
+    outer = λ t l m e. record { inverse = λ p o. refl; v0 = λ p o. refl; edgeColumns = λ p o. refl; edgeWeights = λ p o. refl; block0 = λ p o. refl; block1 = λ p o. refl; block2 = λ p o. e p (not-true (t p) o); partials = λ p o. refl; output = λ p o. refl; ritzRecord = λ p o. refl };
+    inner = λ t m m′ e. record { inverse = λ p. never; v0 = λ p. never; edgeColumns = λ p. never; edgeWeights = λ p. never; block0 = λ p. never; block1 = λ p. never; block2 = e; partials = λ p. never; output = λ p. never; ritzRecord = λ p. never };
+    once = λ own e. record { inverse = nobody; v0 = nobody; edgeColumns = nobody; edgeWeights = nobody; block0 = nobody; block1 = nobody; block2 = e; partials = nobody; output = nobody; ritzRecord = nobody };
     long = λ own h m m′ D. D .lengths .block2;
     mine = λ own h m m′ D. D .block2;
     rest = λ own h m m′ D. same-lent (withBlock A (suc (suc b)) (m′ .block2) m) m′
         (inverse-same (λ j. inBlock (suc (suc b)) (own j)) h m m′ D (λ j p. refl)) (v0-same (λ j. inBlock (suc (suc b)) (own j)) h m m′ D (λ j p. refl)) (columns-same (λ j. inBlock (suc (suc b)) (own j)) h m m′ D (λ j p. refl))
         (weights-same (λ j. inBlock (suc (suc b)) (own j)) h m m′ D (λ j p. refl)) (block0-same (λ j. inBlock (suc (suc b)) (own j)) h m m′ D (λ j p. refl)) (block1-same (λ j. inBlock (suc (suc b)) (own j)) h m m′ D (λ j p. refl))
-        refl (partials-same (λ j. inBlock (suc (suc b)) (own j)) h m m′ D (λ j p. refl)) (output-same (λ j. inBlock (suc (suc b)) (own j)) h m m′ D (λ j p. refl));
+        refl (partials-same (λ j. inBlock (suc (suc b)) (own j)) h m m′ D (λ j p. refl)) (output-same (λ j. inBlock (suc (suc b)) (own j)) h m m′ D (λ j p. refl))
+        (record-same (λ j. inBlock (suc (suc b)) (own j)) h m m′ D (λ j p. refl));
   }
 
   -- ---- chunks that do `op` to the memory; `whose h` are the places of chunk h
@@ -243,6 +255,6 @@ module _ (A : Arith) where
 
   pub reads-idle : Reads (λ h. nowhere) (λ h m. m)
   reads-idle = record {
-    once = record { inverse = nobody; v0 = nobody; edgeColumns = nobody; edgeWeights = nobody; block0 = nobody; block1 = nobody; block2 = nobody; partials = nobody; output = nobody };
-    inner = λ h m m′ D. record { inverse = λ p. never; v0 = λ p. never; edgeColumns = λ p. never; edgeWeights = λ p. never; block0 = λ p. never; block1 = λ p. never; block2 = λ p. never; partials = λ p. never; output = λ p. never };
+    once = record { inverse = nobody; v0 = nobody; edgeColumns = nobody; edgeWeights = nobody; block0 = nobody; block1 = nobody; block2 = nobody; partials = nobody; output = nobody; ritzRecord = nobody };
+    inner = λ h m m′ D. record { inverse = λ p. never; v0 = λ p. never; edgeColumns = λ p. never; edgeWeights = λ p. never; block0 = λ p. never; block1 = λ p. never; block2 = λ p. never; partials = λ p. never; output = λ p. never; ritzRecord = λ p. never };
   }

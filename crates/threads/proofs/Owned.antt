@@ -92,11 +92,11 @@ module _ (A : Arith) where
       lengths-same : lengthsOf A m marks ≡ lengthsOf A m′ marks′
       lengths-same = λ i.
           D .lengths .inverse i ∷ D .lengths .v0 i ∷ D .lengths .edgeColumns i ∷ D .lengths .edgeWeights i ∷ D .lengths .block0 i ∷ D .lengths .block1 i
-          ∷ D .lengths .block2 i ∷ D .lengths .partials i ∷ long i ∷ D .lengths .output i ∷ []
+          ∷ D .lengths .block2 i ∷ D .lengths .partials i ∷ long i ∷ D .lengths .output i ∷ D .lengths .ritzRecord i ∷ []
 
       lists-same : listsSound A s g m marks ≡ listsSound A s g m′ marks′
       unfolding listsSound lentEnough
-      lists-same = ap (λ (l : List ℕ). listsEnough A (s .asked) g && passes (testLent (s .asked .dims) (s .asked .rows) (s .asked .entries) (wholesOf l))) lengths-same
+      lists-same = ap (λ (l : List ℕ). listsEnough A (s .asked) g && passes (testLent (s .asked .dims) (s .asked .rounds) (s .asked .rows) (s .asked .entries) (wholesOf l))) lengths-same
 
       chunk-same : chunkSound A s g m marks h ≡ chunkSound A s g m′ marks′ h
       unfolding chunkSound

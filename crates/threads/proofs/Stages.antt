@@ -78,6 +78,7 @@ module _ (A : Arith) (s : State A) (g : Lists A) where
       block2 = refl;
       partials = refl;
       output = refl;
+      ritzRecord = refl;
     };
     outer = λ h m. record {
       inverse = λ q o. where-out (ownRow n h) inverseVal (m .inverse) q (A .none) (not-true (ownRow n h q) o);
@@ -89,6 +90,7 @@ module _ (A : Arith) (s : State A) (g : Lists A) where
       block2 = λ q o. refl;
       partials = λ q o. refl;
       output = λ q o. refl;
+      ritzRecord = λ q o. refl;
     };
   }
   writes-by stage.edges = record {
@@ -102,6 +104,7 @@ module _ (A : Arith) (s : State A) (g : Lists A) where
       block2 = refl;
       partials = refl;
       output = refl;
+      ritzRecord = refl;
     };
     outer = λ h m. record {
       inverse = λ q o. refl;
@@ -113,6 +116,7 @@ module _ (A : Arith) (s : State A) (g : Lists A) where
       block2 = λ q o. refl;
       partials = λ q o. refl;
       output = λ q o. refl;
+      ritzRecord = λ q o. refl;
     };
   }
   writes-by stage.v0 = writes-fill A (v0L A) (A .none) inV0 (v0-listed A) (ownRow n) _
@@ -183,6 +187,7 @@ module _ (A : Arith) (s : State A) (g : Lists A) where
         block2 = nobody;
         partials = nobody;
         output = nobody;
+        ritzRecord = nobody;
       };
       inner = λ h m m′ D. record {
         inverse = λ q o. fill-same (ownRow n h) inverseVal inverseVal (A .none) (m .inverse) (m′ .inverse) q (D .lengths .inverse) o refl;
@@ -194,6 +199,7 @@ module _ (A : Arith) (s : State A) (g : Lists A) where
         block2 = λ q. never;
         partials = λ q. never;
         output = λ q. never;
+        ritzRecord = λ q. never;
       };
     }
     reads-by stage.edges = record {
@@ -207,6 +213,7 @@ module _ (A : Arith) (s : State A) (g : Lists A) where
         block2 = nobody;
         partials = nobody;
         output = nobody;
+        ritzRecord = nobody;
       };
       inner = λ h m m′ D. record {
         inverse = λ q. never;
@@ -218,6 +225,7 @@ module _ (A : Arith) (s : State A) (g : Lists A) where
         block2 = λ q. never;
         partials = λ q. never;
         output = λ q. never;
+        ritzRecord = λ q. never;
       };
     }
     reads-by stage.v0 =

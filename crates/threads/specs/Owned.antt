@@ -43,34 +43,35 @@ pub record Places : Type 0 where
   pub block2 : ℕ → Bool
   pub partials : ℕ → Bool
   pub output : ℕ → Bool
+  pub ritzRecord : ℕ → Bool
 
 abbrev pub none : ℕ → Bool
 none p = false
 
 abbrev pub nowhere : Places
-nowhere = record { inverse = none; v0 = none; edgeColumns = none; edgeWeights = none; block0 = none; block1 = none; block2 = none; partials = none; output = none }
+nowhere = record { inverse = none; v0 = none; edgeColumns = none; edgeWeights = none; block0 = none; block1 = none; block2 = none; partials = none; output = none; ritzRecord = none }
 
 -- places of one list, or of two
 abbrev pub inRoots : (ℕ → Bool) → Places
-inRoots t = record { inverse = t; v0 = t; edgeColumns = none; edgeWeights = none; block0 = none; block1 = none; block2 = none; partials = none; output = none }
+inRoots t = record { inverse = t; v0 = t; edgeColumns = none; edgeWeights = none; block0 = none; block1 = none; block2 = none; partials = none; output = none; ritzRecord = none }
 
 abbrev pub inEdges : (ℕ → Bool) → Places
-inEdges t = record { inverse = none; v0 = none; edgeColumns = t; edgeWeights = t; block0 = none; block1 = none; block2 = none; partials = none; output = none }
+inEdges t = record { inverse = none; v0 = none; edgeColumns = t; edgeWeights = t; block0 = none; block1 = none; block2 = none; partials = none; output = none; ritzRecord = none }
 
 abbrev pub inV0 : (ℕ → Bool) → Places
-inV0 t = record { inverse = none; v0 = t; edgeColumns = none; edgeWeights = none; block0 = none; block1 = none; block2 = none; partials = none; output = none }
+inV0 t = record { inverse = none; v0 = t; edgeColumns = none; edgeWeights = none; block0 = none; block1 = none; block2 = none; partials = none; output = none; ritzRecord = none }
 
 abbrev pub inPartials : (ℕ → Bool) → Places
-inPartials t = record { inverse = none; v0 = none; edgeColumns = none; edgeWeights = none; block0 = none; block1 = none; block2 = none; partials = t; output = none }
+inPartials t = record { inverse = none; v0 = none; edgeColumns = none; edgeWeights = none; block0 = none; block1 = none; block2 = none; partials = t; output = none; ritzRecord = none }
 
 abbrev pub inOutput : (ℕ → Bool) → Places
-inOutput t = record { inverse = none; v0 = none; edgeColumns = none; edgeWeights = none; block0 = none; block1 = none; block2 = none; partials = none; output = t }
+inOutput t = record { inverse = none; v0 = none; edgeColumns = none; edgeWeights = none; block0 = none; block1 = none; block2 = none; partials = none; output = t; ritzRecord = none }
 
 -- block 0, 1 or, for any other number, 2
 abbrev pub inBlock : ℕ → (ℕ → Bool) → Places
-inBlock zero t = record { inverse = none; v0 = none; edgeColumns = none; edgeWeights = none; block0 = t; block1 = none; block2 = none; partials = none; output = none }
-inBlock (suc zero) t = record { inverse = none; v0 = none; edgeColumns = none; edgeWeights = none; block0 = none; block1 = t; block2 = none; partials = none; output = none }
-inBlock (suc (suc b)) t = record { inverse = none; v0 = none; edgeColumns = none; edgeWeights = none; block0 = none; block1 = none; block2 = t; partials = none; output = none }
+inBlock zero t = record { inverse = none; v0 = none; edgeColumns = none; edgeWeights = none; block0 = t; block1 = none; block2 = none; partials = none; output = none; ritzRecord = none }
+inBlock (suc zero) t = record { inverse = none; v0 = none; edgeColumns = none; edgeWeights = none; block0 = none; block1 = t; block2 = none; partials = none; output = none; ritzRecord = none }
+inBlock (suc (suc b)) t = record { inverse = none; v0 = none; edgeColumns = none; edgeWeights = none; block0 = none; block1 = none; block2 = t; partials = none; output = none; ritzRecord = none }
 
 -- all places but these
 abbrev pub outside : Places → Places
@@ -84,6 +85,7 @@ outside t = record {
   block2 = λ p. not (t .block2 p);
   partials = λ p. not (t .partials p);
   output = λ p. not (t .output p);
+  ritzRecord = λ p. not (t .ritzRecord p);
 }
 
 -- no place is two chunks': `whose h` are the places of chunk h
@@ -97,13 +99,14 @@ pub record OneOwner (whose : ℕ → Places) : Type 0 where
   pub block2 : (h j p : ℕ) → whose h .block2 p ≡ true → whose j .block2 p ≡ true → h ≡ j
   pub partials : (h j p : ℕ) → whose h .partials p ≡ true → whose j .partials p ≡ true → h ≡ j
   pub output : (h j p : ℕ) → whose h .output p ≡ true → whose j .output p ≡ true → h ≡ j
+  pub ritzRecord : (h j p : ℕ) → whose h .ritzRecord p ≡ true → whose j .ritzRecord p ≡ true → h ≡ j
 
 -- no chunk but h owns place p
 abbrev pub NoOther : (ℕ → ℕ → Bool) → ℕ → ℕ → Type 0
 NoOther whose h p = (j : ℕ) → (j ≡ h → ⊥) → whose j p ≡ false
 
 module _ (A : Arith) where
-  -- ---- the places that chunk h of a stage writes
+  -- ---- the places that chunk h of a stage writes; the Ritz record is no chunk's: closing writes it
   abbrev pub ownedBy : Stage → State A → Lists A → ℕ → Places
   ownedBy stage.empty s g h = nowhere
   ownedBy stage.degrees s g h = inRoots (ownRow (s .asked .rows) h)
@@ -143,6 +146,7 @@ module _ (A : Arith) where
     pub block2 : length (m .block2) ≡ length (m′ .block2)
     pub partials : length (m .partials) ≡ length (m′ .partials)
     pub output : length (m .output) ≡ length (m′ .output)
+    pub ritzRecord : length (m .ritzRecord) ≡ length (m′ .ritzRecord)
 
   -- they hold the same at these places
   pub record AgreeWhere (t : Places) (m m′ : Lent A) : Type 0 where
@@ -155,6 +159,7 @@ module _ (A : Arith) where
     pub block2 : (p : ℕ) → t .block2 p ≡ true → getD (m .block2) p (A .none) ≡ getD (m′ .block2) p (A .none)
     pub partials : (p : ℕ) → t .partials p ≡ true → getD (m .partials) p (A .none) ≡ getD (m′ .partials) p (A .none)
     pub output : (p : ℕ) → t .output p ≡ true → getD (m .output) p (A .none) ≡ getD (m′ .output) p (A .none)
+    pub ritzRecord : (p : ℕ) → t .ritzRecord p ≡ true → getD (m .ritzRecord) p (A .none) ≡ getD (m′ .ritzRecord) p (A .none)
 
   -- they are as long and hold the same at every place that no chunk but h owns: m′ is m with anything at all at the others' places
   pub record DifferAt (whose : ℕ → Places) (h : ℕ) (m m′ : Lent A) : Type 0 where
@@ -168,6 +173,7 @@ module _ (A : Arith) where
     pub block2 : (p : ℕ) → NoOther (λ j. whose j .block2) h p → getD (m .block2) p (A .none) ≡ getD (m′ .block2) p (A .none)
     pub partials : (p : ℕ) → NoOther (λ j. whose j .partials) h p → getD (m .partials) p (A .none) ≡ getD (m′ .partials) p (A .none)
     pub output : (p : ℕ) → NoOther (λ j. whose j .output) h p → getD (m .output) p (A .none) ≡ getD (m′ .output) p (A .none)
+    pub ritzRecord : (p : ℕ) → NoOther (λ j. whose j .ritzRecord) h p → getD (m .ritzRecord) p (A .none) ≡ getD (m′ .ritzRecord) p (A .none)
 
   -- of the chunks of the state's stage
   abbrev pub DifferAtOthers : State A → Lists A → ℕ → Lent A → Lent A → Type 0

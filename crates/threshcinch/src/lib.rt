@@ -7,14 +7,14 @@ ghost use mathlib.Core.Bool.{_||_};
 ghost use lib.Dec.{ltb};
 ghost use lib.ListN.{replicate};
 ghost use Rattle.definition.specs.Arith.{ieee64};
-ghost use Rattle.definition.specs.Numbers.{chunks, defaults, dimsMost, rowsMost, entriesMost, lentCount};
+ghost use Rattle.definition.specs.Numbers.{chunks, defaults, dimsMost, rowsMost, entriesMost, roundsMost, lentCount};
 ghost use Rattle.definition.specs.Refusals.{refused, within, testRounds, testDegree, testSeedStd, setRounds, setDegree, setSeedStd};
 ghost use Rattle.input.specs.Said.{verdictOf, paramsOf, Answered};
 ghost use Rattle.machine.specs.Calls.{openCall, chunkCall, closeCall};
 ghost use Rattle.machine.specs.Progress.{callsAccepted, callsOwed};
 ghost use Rattle.promises.specs.OneCall.{wholeCall};
 ghost use Rattle.spectral.specs.Said.{wholeIn};
-ghost use Rattle.state.specs.Said.{stateIn, listsIn, lentIn, outcomeIn};
+ghost use Rattle.state.specs.Said.{stateIn, listsIn, lentAll, outcomeIn};
 ghost use Rattle.threshcinch.specs.Said.{testSizes, sizesBy};
 use input::Set;
 use input::SpectralParams;
@@ -23,11 +23,11 @@ use spectral::Embedded;
 use state::Answer;
 use state::State;
 
-// The sizes of the lent memory, 0 to 9 in document 01's order, in elements; zeros with a refusal.
+// The sizes of the lent memory, 0 to 10 in document 01's order, in elements; zeros with a refusal.
 #[repr(C)]
 pub struct Sizes {
     pub verdict: Verdict,
-    pub lengths: [usize; 10],
+    pub lengths: [usize; 11],
 }
 
 // ---- parameters
@@ -83,21 +83,28 @@ fn is_over(rows: usize, entries: usize) -> bool
     SpectralParams::ROWS_MOST < rows || SpectralParams::ENTRIES_MOST < entries
 }
 
+// Rounds from 1 to 1,000.
+fn is_rounds(rounds: u64) -> bool
+    ensures { λ r. ⌜ r ≡ within rounds roundsMost ⌝ }
+{
+    1 <= rounds && rounds <= SpectralParams::ROUNDS_MOST
+}
+
 // Zeros, with a refusal.
 fn no_sizes(number: u64) -> Sizes
     ensures { λ r. ⌜ verdictOf (r .verdict) ≡ refused number 0 ⌝ }
     ensures { λ r. ⌜ r .lengths ≡ replicate lentCount 0 ⌝ }
 {
     let verdict = Verdict { number, place: 0 };
-    let lengths = [0; 10];
+    let lengths = [0; 11];
     Sizes { verdict, lengths }
 }
 
-// How long each lent list must at least be. Refusals 1, 2 and 3 are those that the opening would answer for such a graph.
+// How long each lent list must at least be. Refusals 1, 2, 3 and 8 are those that the opening would answer for such a graph and rounds.
 #[no_mangle]
-pub extern "C" fn threshcinch_lent_sizes(d: u64, rows: usize, entries: usize) -> Sizes
-    ensures { λ r. ⌜ verdictOf (r .verdict) ≡ testSizes d rows entries ⌝ }
-    ensures { λ r. ⌜ r .lengths ≡ sizesBy (testSizes d rows entries) d rows entries ⌝ }
+pub extern "C" fn threshcinch_lent_sizes(d: u64, rounds: u64, rows: usize, entries: usize) -> Sizes
+    ensures { λ r. ⌜ verdictOf (r .verdict) ≡ testSizes d rounds rows entries ⌝ }
+    ensures { λ r. ⌜ r .lengths ≡ sizesBy (testSizes d rounds rows entries) d rounds rows entries ⌝ }
 {
     if !is_dims(d) {
         return no_sizes(1);
@@ -108,7 +115,10 @@ pub extern "C" fn threshcinch_lent_sizes(d: u64, rows: usize, entries: usize) ->
     if is_over(rows, entries) {
         return no_sizes(3);
     }
-    let lengths = input::lent_sizes(d as usize, rows, entries);
+    if !is_rounds(rounds) {
+        return no_sizes(8);
+    }
+    let lengths = input::lent_sizes(d as usize, rounds as usize, rows, entries);
     let verdict = Verdict {
         number: 0,
         place: 0,
@@ -135,14 +145,15 @@ pub extern "C" fn threshcinch_spectral_embedding(
     partials: &mut [f64],
     marks: &mut [u8],
     output: &mut [f64],
+    ritz_record: &mut [f64],
 ) -> Embedded
     ensures { λ r. ⌜ wholeIn r
-        (lentIn (now (inverse .exit)) (now (v0 .exit)) (now («edge_columns» .exit)) (now («edge_weights» .exit))
-        (now (block0 .exit)) (now (block1 .exit)) (now (block2 .exit)) (now (partials .exit)) (now (output .exit)))
+        (lentAll (now (inverse .exit)) (now (v0 .exit)) (now («edge_columns» .exit)) (now («edge_weights» .exit))
+        (now (block0 .exit)) (now (block1 .exit)) (now (block2 .exit)) (now (partials .exit)) (now (output .exit)) (now («ritz_record» .exit)))
         (now (marks .exit))
         ≡ wholeCall ieee64 d (paramsOf params) (listsIn (now (starts .entry)) (now (columns .entry)) (now (values .entry)))
-        (lentIn (now (inverse .entry)) (now (v0 .entry)) (now («edge_columns» .entry)) (now («edge_weights» .entry))
-        (now (block0 .entry)) (now (block1 .entry)) (now (block2 .entry)) (now (partials .entry)) (now (output .entry)))
+        (lentAll (now (inverse .entry)) (now (v0 .entry)) (now («edge_columns» .entry)) (now («edge_weights» .entry))
+        (now (block0 .entry)) (now (block1 .entry)) (now (block2 .entry)) (now (partials .entry)) (now (output .entry)) (now («ritz_record» .entry)))
         (now (marks .entry)) ⌝ }
 {
     spectral::spectral_embedding(
@@ -161,6 +172,7 @@ pub extern "C" fn threshcinch_spectral_embedding(
         partials,
         marks,
         output,
+        ritz_record,
     )
 }
 
@@ -183,14 +195,15 @@ pub extern "C" fn threshcinch_open(
     partials: &[f64],
     marks: &mut [u8],
     output: &[f64],
+    ritz_record: &[f64],
 ) -> Answer
     ensures { λ r. ⌜ outcomeIn r
-        (lentIn (now (inverse .entry)) (now (v0 .entry)) (now («edge_columns» .entry)) (now («edge_weights» .entry))
-        (now (block0 .entry)) (now (block1 .entry)) (now (block2 .entry)) (now (partials .entry)) (now (output .entry)))
+        (lentAll (now (inverse .entry)) (now (v0 .entry)) (now («edge_columns» .entry)) (now («edge_weights» .entry))
+        (now (block0 .entry)) (now (block1 .entry)) (now (block2 .entry)) (now (partials .entry)) (now (output .entry)) (now («ritz_record» .entry)))
         (now (marks .exit))
         ≡ openCall ieee64 d (paramsOf params) (listsIn (now (starts .entry)) (now (columns .entry)) (now (values .entry)))
-        (lentIn (now (inverse .entry)) (now (v0 .entry)) (now («edge_columns» .entry)) (now («edge_weights» .entry))
-        (now (block0 .entry)) (now (block1 .entry)) (now (block2 .entry)) (now (partials .entry)) (now (output .entry)))
+        (lentAll (now (inverse .entry)) (now (v0 .entry)) (now («edge_columns» .entry)) (now («edge_weights» .entry))
+        (now (block0 .entry)) (now (block1 .entry)) (now (block2 .entry)) (now (partials .entry)) (now (output .entry)) (now («ritz_record» .entry)))
         (now (marks .entry)) ⌝ }
 {
     run::open(
@@ -209,6 +222,7 @@ pub extern "C" fn threshcinch_open(
         partials,
         marks,
         output,
+        ritz_record,
     )
 }
 
@@ -229,14 +243,15 @@ pub extern "C" fn threshcinch_chunk(
     partials: &mut [f64],
     marks: &mut [u8],
     output: &mut [f64],
+    ritz_record: &[f64],
 ) -> Answer
     ensures { λ r. ⌜ outcomeIn r
-        (lentIn (now (inverse .exit)) (now (v0 .exit)) (now («edge_columns» .exit)) (now («edge_weights» .exit))
-        (now (block0 .exit)) (now (block1 .exit)) (now (block2 .exit)) (now (partials .exit)) (now (output .exit)))
+        (lentAll (now (inverse .exit)) (now (v0 .exit)) (now («edge_columns» .exit)) (now («edge_weights» .exit))
+        (now (block0 .exit)) (now (block1 .exit)) (now (block2 .exit)) (now (partials .exit)) (now (output .exit)) (now («ritz_record» .entry)))
         (now (marks .exit))
         ≡ chunkCall ieee64 (stateIn state) number (listsIn (now (starts .entry)) (now (columns .entry)) (now (values .entry)))
-        (lentIn (now (inverse .entry)) (now (v0 .entry)) (now («edge_columns» .entry)) (now («edge_weights» .entry))
-        (now (block0 .entry)) (now (block1 .entry)) (now (block2 .entry)) (now (partials .entry)) (now (output .entry)))
+        (lentAll (now (inverse .entry)) (now (v0 .entry)) (now («edge_columns» .entry)) (now («edge_weights» .entry))
+        (now (block0 .entry)) (now (block1 .entry)) (now (block2 .entry)) (now (partials .entry)) (now (output .entry)) (now («ritz_record» .entry)))
         (now (marks .entry)) ⌝ }
 {
     run::chunk(
@@ -255,6 +270,7 @@ pub extern "C" fn threshcinch_chunk(
         partials,
         marks,
         output,
+        ritz_record,
     )
 }
 
@@ -274,14 +290,15 @@ pub extern "C" fn threshcinch_close(
     partials: &[f64],
     marks: &mut [u8],
     output: &[f64],
+    ritz_record: &mut [f64],
 ) -> Answer
     ensures { λ r. ⌜ outcomeIn r
-        (lentIn (now (inverse .entry)) (now (v0 .entry)) (now («edge_columns» .entry)) (now («edge_weights» .entry))
-        (now (block0 .entry)) (now (block1 .entry)) (now (block2 .entry)) (now (partials .entry)) (now (output .entry)))
+        (lentAll (now (inverse .entry)) (now (v0 .entry)) (now («edge_columns» .entry)) (now («edge_weights» .entry))
+        (now (block0 .entry)) (now (block1 .entry)) (now (block2 .entry)) (now (partials .entry)) (now (output .entry)) (now («ritz_record» .exit)))
         (now (marks .exit))
         ≡ closeCall ieee64 (stateIn state) (listsIn (now (starts .entry)) (now (columns .entry)) (now (values .entry)))
-        (lentIn (now (inverse .entry)) (now (v0 .entry)) (now («edge_columns» .entry)) (now («edge_weights» .entry))
-        (now (block0 .entry)) (now (block1 .entry)) (now (block2 .entry)) (now (partials .entry)) (now (output .entry)))
+        (lentAll (now (inverse .entry)) (now (v0 .entry)) (now («edge_columns» .entry)) (now («edge_weights» .entry))
+        (now (block0 .entry)) (now (block1 .entry)) (now (block2 .entry)) (now (partials .entry)) (now (output .entry)) (now («ritz_record» .entry)))
         (now (marks .entry)) ⌝ }
 {
     run::close(
@@ -299,6 +316,7 @@ pub extern "C" fn threshcinch_close(
         partials,
         marks,
         output,
+        ritz_record,
     )
 }
 

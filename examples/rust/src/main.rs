@@ -12,5 +12,9 @@ fn main() -> Result<(), Refusal> {
     for row in (0..seed.rows).filter_map(|i| seed.row(i)) {
         println!("{:+.6e} {:+.6e}", row[0], row[1]);
     }
+    // How the spectrum settled: the bound that each round's filter used, and the leading Ritz values that it found.
+    for (round, (bound, values)) in seed.ritz_record.iter().enumerate() {
+        println!("round {round}: bound {bound:.6}, Ritz values {:.6} {:.6} {:.6}", values[0], values[1], values[2]);
+    }
     Ok(())
 }

@@ -120,6 +120,11 @@ impl Answer {
         self.rounds.iter().map(line).collect()
     }
 
+    /// Round by round the bound that its filter used, and then its Ritz values in document 000's order: the port's lent memory 10.
+    pub fn record(&self) -> impl Iterator<Item = f64> {
+        self.rounds.iter().flat_map(|round| std::iter::once(round.bound).chain(round.ritz.iter().copied()))
+    }
+
     /// Conditions and counts on one line.
     pub fn summary(&self) -> String {
         [&self.conditions.words()[..], &self.counts.words()[..]].concat().join(" ")
@@ -129,6 +134,7 @@ impl Answer {
 #[cfg(test)]
 mod tests {
     use super::*;
+    use crate::make;
 
     #[test]
     fn a_tie_and_a_nan_do_not_fall() {
@@ -145,6 +151,21 @@ mod tests {
         assert!(sums_to_the_start(&[-0.0, -0.0]));
         assert!(!sums_to_the_start(&[-0.0, 0.0]));
         assert!(!sums_to_the_start(&[1.0, -1.0]));
+    }
+
+    /// The bound before the values is the one that the round's filter used, and not the one that the values set.
+    #[test]
+    fn a_rounds_record_begins_with_the_bound_that_it_used() {
+        for number in [0, 1, 17, 9] {
+            let request = Request { rounds: 4, ..make::make(number) };
+            let width = request.d + judge::OVERSAMPLE + 1;
+            let record: Vec<f64> = solve(&request).unwrap().record().collect();
+            assert_eq!(record.len(), request.rounds * width);
+            assert_eq!(record[0], 0.75);
+            for two in record.chunks(width).collect::<Vec<_>>().windows(2) {
+                assert_eq!(two[1][0], two[0][1 + request.d + 1].clamp(0.1, 0.9995));
+            }
+        }
     }
 
     #[test]

@@ -14,7 +14,7 @@ use crate::{
 };
 
 const BEGIN: &[u8; 8] = b"TCSTREAM";
-const GRAPH: &[u8; 8] = b"TCGRAPH1";
+const GRAPH: &[u8; 8] = b"TCGRAPH2";
 const END: &[u8; 8] = b"TCENDING";
 
 /// So many numbers in a row meet every family at every D once; the graphs of such a block are of one size.
@@ -142,7 +142,8 @@ fn write_graph(out: &mut impl Write, number: u64, request: &Request, answer: &An
     all(out, request.starts.iter().map(|&start| (start as u64).to_le_bytes()))?;
     all(out, request.columns.iter().map(|column| column.to_le_bytes()))?;
     all(out, request.values.iter().map(|value| value.to_bits().to_le_bytes()))?;
-    all(out, answer.seed.iter().map(|value| value.to_bits().to_le_bytes()))
+    all(out, answer.seed.iter().map(|value| value.to_bits().to_le_bytes()))?;
+    all(out, answer.record().map(|value| value.to_bits().to_le_bytes()))
 }
 
 fn whole(out: &mut impl Write, numbers: &[u64]) -> std::io::Result<()> {
@@ -192,7 +193,8 @@ mod tests {
         write(5, 3, &mut bytes).unwrap();
         let lists = |x: u64| {
             let r = request(x);
-            8 * (17 + r.n() + 1 + r.n() * r.d) + 12 * r.columns.len()
+            let record = r.rounds * (r.d + judge::OVERSAMPLE + 1);
+            8 * (17 + r.n() + 1 + r.n() * r.d + record) + 12 * r.columns.len()
         };
         assert_eq!(bytes.len(), 24 + (5..8).map(lists).sum::<usize>() + 16);
         assert!(bytes.starts_with(BEGIN) && bytes[bytes.len() - 16..].starts_with(END));

@@ -45,7 +45,7 @@ fn conditions_come_in_their_order() {
 fn a_stream_names_its_graphs_and_ends() {
     let out = oracle(&["stream", "3", "2"], b"");
     assert!(out.status.success());
-    let head: Vec<u8> = [*b"TCSTREAM", 3u64.to_le_bytes(), 2u64.to_le_bytes(), *b"TCGRAPH1"].concat();
+    let head: Vec<u8> = [*b"TCSTREAM", 3u64.to_le_bytes(), 2u64.to_le_bytes(), *b"TCGRAPH2"].concat();
     assert!(out.stdout.starts_with(&head));
     assert!(out.stdout.ends_with(&[*b"TCENDING", 2u64.to_le_bytes()].concat()));
 }

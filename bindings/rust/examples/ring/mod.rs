@@ -57,6 +57,7 @@ pub fn first_difference(left: &Memory, right: &Memory) -> Option<usize> {
         same(&left.partials, &right.partials),
         left.marks == right.marks,
         same(&left.output, &right.output),
+        same(&left.ritz_record, &right.ritz_record),
     ];
     lists.iter().position(|same| !same)
 }

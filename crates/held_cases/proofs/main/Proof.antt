@@ -6,10 +6,10 @@ use Rattle.held_cases.proofs.main.Statement.{statement}
 use Rattle.held_cases.proofs.main.Tie as tie
 
 abbrev Inv-loop : tie.InvT-loop
-Inv-loop starts₀ columns₀ values₀ inverse₀ v0₀ edge-columns₀ edge-weights₀ block0₀ block1₀ block2₀ partials₀ marks₀ output₀ book₀ last₀ left₀ starts columns values inverse v0 edge-columns edge-weights block0 block1 block2 partials marks output book last left = 0 ≤ left
+Inv-loop starts₀ columns₀ values₀ inverse₀ v0₀ edge-columns₀ edge-weights₀ block0₀ block1₀ block2₀ partials₀ marks₀ output₀ ritz-record₀ book₀ last₀ left₀ starts columns values inverse v0 edge-columns edge-weights block0 block1 block2 partials marks output ritz-record book last left = 0 ≤ left
 
 abbrev μ-loop : tie.MeasureT-loop
-μ-loop starts₀ columns₀ values₀ inverse₀ v0₀ edge-columns₀ edge-weights₀ block0₀ block1₀ block2₀ partials₀ marks₀ output₀ book₀ last₀ left₀ starts columns values inverse v0 edge-columns edge-weights block0 block1 block2 partials marks output book last left = left
+μ-loop starts₀ columns₀ values₀ inverse₀ v0₀ edge-columns₀ edge-weights₀ block0₀ block1₀ block2₀ partials₀ marks₀ output₀ ritz-record₀ book₀ last₀ left₀ starts columns values inverse v0 edge-columns edge-weights block0 block1 block2 partials marks output ritz-record book last left = left
 
 begun-requires : tie.Need-begun-requires Inv-loop μ-loop
 begun-requires c κs = search needs
@@ -36,7 +36,7 @@ after-requires : tie.Need-after-requires Inv-loop μ-loop
 after-requires c κs = search needs
 
 fewer-requires : tie.Need-fewer-requires Inv-loop μ-loop
-fewer-requires c κs = omega (arith, c .before .before .before .before .before .before .before .before .before .before .before .before .before .before .before .before .before .before .before .before .before .before .before .before .before .before .before .before .before .before .before .before .before .loop-test .taken)
+fewer-requires c κs = omega (arith, c .before .before .before .before .before .before .before .before .before .before .before .before .before .before .before .before .before .before .before .before .before .before .before .before .before .before .before .before .before .before .before .before .before .before .before .loop-test .taken)
 
 loop-less : tie.Need-loop-less Inv-loop μ-loop
 loop-less c = omega arith

@@ -1,6 +1,8 @@
 -- `print_map` meets its contract. Assumes nothing.
+use mathlib.Core.Path.{ap}
 use native.Mathlib.Omega.{arith}
 use lib.ListN.{take}
+use Rattle.definition.specs.Numbers.{Params}
 use Rattle.input.specs.Said.{paramsOf}
 use Rattle.text.specs.Small.{answerOf}
 use Rattle.text.proofs.Held.{part-length, put-part}
@@ -54,11 +56,12 @@ slice-aggregate-answer-graph-4 c = search needs
 -- src/main.rt:24:9
 answer-graph-requires : tie.Need-answer-graph-requires
 answer-graph-requires c κs =
-    let s = c .before .before .before .before .before .before .before .before in
+    let n = c .before .before .before .before .before .before .before in
+    let s = n .before in
     let f = s .args .file in
     let starts = part-length (f .«start_count») (f .starts) (omega (arith, s .pre)) in
     let columns = part-length (f .«column_count») (f .columns) (omega (arith, s .pre)) in
-    (omega (arith, starts, s .pre), omega (arith, columns, s .pre), omega arith)
+    (omega (arith, starts, s .pre), omega (arith, columns, s .pre), omega arith, omega (arith, ap (λ (p : Params). p .rounds) (n .new .ensures)))
 
 -- src/main.rt:33:38
 array-share-prefix-out : tie.Need-array-share-prefix-out

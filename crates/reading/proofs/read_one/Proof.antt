@@ -13,8 +13,8 @@ read-line-requires c κs = search needs
 enum-known-next : tie.Need-enum-known-next
 enum-known-next c = search needs
 
-array-read-t13 : tie.Need-array-read-t13
-array-read-t13 c = search needs
+array-read-t14 : tie.Need-array-read-t14
+array-read-t14 c = search needs
 
 enum-told : tie.Need-enum-told
 enum-told c = search needs
@@ -32,7 +32,7 @@ read-one-spec =
     slice-aggregate-read-line
     read-line-requires
     enum-known-next
-    array-read-t13
+    array-read-t14
     enum-told
     returns
     returns-2)

@@ -4,7 +4,7 @@ use Rattle.machine.specs.State.{chunkCount}
 use Rattle.state.specs.Said.{askedIn, stateIn, listsIn, lentIn}
 use Rattle.spectral.proofs.Chunks.{Upto, none-done, next-ready, next-marked, one-more, all-done}
 use Rattle.spectral.proofs.Lengths.{Same, same, same-on}
-use mathlib.Core.Path.{_≡_}
+use mathlib.Core.Path.{_≡_, refl}
 use native.Mathlib.Omega.{arith}
 use borrow.Author.Needs.{needs}
 use Rattle.spectral.proofs.all_chunks.Statement.{statement}
@@ -45,7 +45,7 @@ loop-again c =
     let u = c .before .before .before .before .before .before .before .before .before .before .before .before .before .before .before .before .before .before .before .before .before .before .before .before .before .before .before .before .before .before .before in
     let i = u .before .loop .inv in
     let k = w .kept .1 .1 .1 .1 .1 in
-    (i .0, one-more (i .1) (omega (arith, i .0, u .loop-test .taken)) (w .ensures .0) (w .ensures .1), same-on (i .2) (record { inverse = k .0; v0 = k .1 .0; edgeColumns = k .1 .1 .0; edgeWeights = k .1 .1 .1 .0; block0 = k .1 .1 .1 .1 .0; block1 = k .1 .1 .1 .1 .1 .0; block2 = k .1 .1 .1 .1 .1 .1 .0; partials = k .1 .1 .1 .1 .1 .1 .1 .0; marked = k .1 .1 .1 .1 .1 .1 .1 .1 .0; output = k .1 .1 .1 .1 .1 .1 .1 .1 .1 .0 }))
+    (i .0, one-more (i .1) (omega (arith, i .0, u .loop-test .taken)) (w .ensures .0) (w .ensures .1), same-on (i .2) (record { inverse = k .0; v0 = k .1 .0; edgeColumns = k .1 .1 .0; edgeWeights = k .1 .1 .1 .0; block0 = k .1 .1 .1 .1 .0; block1 = k .1 .1 .1 .1 .1 .0; block2 = k .1 .1 .1 .1 .1 .1 .0; partials = k .1 .1 .1 .1 .1 .1 .1 .0; marked = k .1 .1 .1 .1 .1 .1 .1 .1 .0; output = k .1 .1 .1 .1 .1 .1 .1 .1 .1 .0; ritzRecord = refl }))
 
 same-length : tie.Need-same-length Inv-loop μ-loop
 same-length c = c .before .loop .inv .2 .inverse

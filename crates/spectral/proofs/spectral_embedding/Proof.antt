@@ -3,7 +3,7 @@ use mathlib.Core.Path.{_∙_}
 use Rattle.definition.specs.Arith.{ieee64}
 use Rattle.input.specs.Said.{verdictOf, paramsOf}
 use Rattle.machine.specs.State.{Lists, Lent}
-use Rattle.state.specs.Said.{stateIn, listsIn, lentIn}
+use Rattle.state.specs.Said.{stateIn, listsIn, lentAll}
 use Rattle.spectral.proofs.Paths.{Opened, refused, taken, stages-accepted, stages-opened, stages-marks, whole-taken}
 use borrow.Author.Needs.{needs}
 use Rattle.spectral.proofs.spectral_embedding.Statement.{statement}
@@ -11,7 +11,7 @@ use Rattle.spectral.proofs.spectral_embedding.Tie as tie
 
 -- the function's entry, from the place after the opening
 abbrev entered : tie.After-open → tie.Start
-entered t = t .before .before .before .before .before .before .before .before .before .before .before .before .before .before .before .before .before .before .before .before .before .before .before .before
+entered t = t .before .before .before .before .before .before .before .before .before .before .before .before .before .before .before .before .before .before .before .before .before .before .before .before .before .before
 
 -- the graph and the lent memory as they came
 abbrev graph : tie.Start → Lists ieee64
@@ -20,8 +20,8 @@ graph s = let a = s .args in listsIn (a .starts .now) (a .columns .now) (a .valu
 abbrev lent : tie.Start → Lent ieee64
 lent s =
     let a = s .args in
-    lentIn (a .inverse .now) (a .v0 .now) (a .edge-columns .now) (a .edge-weights .now) (a .block0 .now) (a .block1 .now) (a .block2 .now) (a .partials .now)
-    (a .output .now)
+    lentAll (a .inverse .now) (a .v0 .now) (a .edge-columns .now) (a .edge-weights .now) (a .block0 .now) (a .block1 .now) (a .block2 .now) (a .partials .now)
+    (a .output .now) (a .ritz-record .now)
 
 -- an accepted opening
 opened : (c : tie.Else1) → let t = c .before .before .before .before .before in let s = entered t in
@@ -64,6 +64,9 @@ same-length-9 c = search needs
 same-length-10 : tie.Need-same-length-10
 same-length-10 c = search needs
 
+same-length-11 : tie.Need-same-length-11
+same-length-11 c = search needs
+
 returns : tie.Need-returns
 returns c =
     let t = c .before .before .before .before .before in
@@ -72,11 +75,8 @@ returns c =
 
 all-stages-requires : tie.Need-all-stages-requires
 all-stages-requires c κs =
-    let o = opened (c .before .before .before .before .before .before .before .before .before .before .before) in
+    let o = opened (c .before .before .before .before .before .before .before .before .before .before .before .before) in
     (stages-accepted o, (stages-opened o, stages-marks o))
-
-same-length-11 : tie.Need-same-length-11
-same-length-11 c = search needs
 
 same-length-12 : tie.Need-same-length-12
 same-length-12 c = search needs
@@ -100,15 +100,21 @@ same-length-18 : tie.Need-same-length-18
 same-length-18 c = search needs
 
 same-length-19 : tie.Need-same-length-19
-same-length-19 c = c .before .before .before .before .before .before .before .before .before .before .before .before .before .before .before .before .before .before .before .before .all-stages .kept .1 .1 .1 .1 .1 .1 .1 .1 .1 .1 .1 .1 .0 ∙ c .before .before .before .before .before .before .before .before .before .before .before .before .before .before .before .before .before .before .before .before .before .before .before .before .before .before .before .before .before .before .before .before .before .before .before .before .before .«open» .kept .1 .1 .1 .1 .1 .1 .1 .1 .1 .1 .1 .1 .1 .0
+same-length-19 c = search needs
 
 same-length-20 : tie.Need-same-length-20
-same-length-20 c = search needs
+same-length-20 c = c .before .before .before .before .before .before .before .before .before .before .before .before .before .before .before .before .before .before .before .before .before .before .all-stages .kept .1 .1 .1 .1 .1 .1 .1 .1 .1 .1 .1 .1 .0 ∙ c .before .before .before .before .before .before .before .before .before .before .before .before .before .before .before .before .before .before .before .before .before .before .before .before .before .before .before .before .before .before .before .before .before .before .before .before .before .before .before .before .«open» .kept .1 .1 .1 .1 .1 .1 .1 .1 .1 .1 .1 .1 .1 .0
+
+same-length-21 : tie.Need-same-length-21
+same-length-21 c = search needs
+
+same-length-22 : tie.Need-same-length-22
+same-length-22 c = search needs
 
 returns-2 : tie.Need-returns-2
 returns-2 c =
-    let a = c .before .before .before .before .before .before .before .before .before .before .before .before .before .before .before .before .before .before .before .before .all-stages .ensures in
-    whole-taken (opened (c .before .before .before .before .before .before .before .before .before .before .before .before .before .before .before .before .before .before .before .before .before .before .before .before .before .before .before .before .before .before .before .before)) (a .0) (a .1 .0) (a .1 .1)
+    let a = c .before .before .before .before .before .before .before .before .before .before .before .before .before .before .before .before .before .before .before .before .before .before .all-stages .ensures in
+    whole-taken (opened (c .before .before .before .before .before .before .before .before .before .before .before .before .before .before .before .before .before .before .before .before .before .before .before .before .before .before .before .before .before .before .before .before .before .before .before)) (a .0) (a .1 .0) (a .1 .1)
 
 pub spectral-embedding-spec : {M : Type 1} → statement M
 spectral-embedding-spec =
@@ -125,9 +131,9 @@ spectral-embedding-spec =
     same-length-8
     same-length-9
     same-length-10
+    same-length-11
     returns
     all-stages-requires
-    same-length-11
     same-length-12
     same-length-13
     same-length-14
@@ -137,4 +143,6 @@ spectral-embedding-spec =
     same-length-18
     same-length-19
     same-length-20
+    same-length-21
+    same-length-22
     returns-2)

@@ -10,26 +10,21 @@ use Rattle.printing.proofs.print_refusal.Reads as print-refusal-reads
 use Rattle.reading.proofs.read_run.Reads as read-run-reads
 use Rattle.text.proofs.answer_run.Reads as answer-run-reads
 
--- src/lib.rt:52:9
 returns : tie.Need-returns
 returns c = let a = c .before .before .before .args in answered-short (a .bytes .now) (a .out .now) (c .if1 .taken)
 
--- src/lib.rt:54:9
 read-run-requires : tie.Need-read-run-requires
 read-run-requires c κs = search needs
 
--- src/lib.rt:56:13
 answer-run-requires : tie.Need-answer-run-requires
 answer-run-requires c κs =
     let s = c .before .before .before .before .before .before in
     let h = right-held (s .args .bytes .now) (c .before .before .read-run .ensures) (c .before .if2 .taken) in
-    (h .counts, (h .starts, h .columns, h .values, omega (arith, c .before .before .before .if1 .left)))
+    (h .counts, (h .rounds, (h .starts, h .columns, h .values, omega (arith, c .before .before .before .if1 .left))))
 
--- src/lib.rt:57:9
 same-length : tie.Need-same-length
 same-length c = search needs
 
--- src/lib.rt:57:9
 returns-2 : tie.Need-returns-2
 returns-2 c =
     let a = c .before .before .before .before .before .before .before .before .before .args in
@@ -37,15 +32,12 @@ returns-2 c =
     answered-text (a .bytes .now) (a .out .now) (omega (arith, r .before .if1 .left))
     (right-held (a .bytes .now) (r .read-run .ensures) (c .before .before .before .before .if2 .taken) .says) (c .before .before .answer-run .ensures)
 
--- src/lib.rt:59:9
 print-refusal-requires : tie.Need-print-refusal-requires
 print-refusal-requires c κs = search needs
 
--- src/lib.rt:48:1
 same-length-2 : tie.Need-same-length-2
 same-length-2 c = search needs
 
--- src/lib.rt:48:1
 returns-3 : tie.Need-returns-3
 returns-3 c =
     let a = c .before .before .before .before .before .before .before .before .before .args in

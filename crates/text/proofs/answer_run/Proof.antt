@@ -8,50 +8,41 @@ use Rattle.text.proofs.answer_run.Reads as reads
 use Rattle.text.proofs.answer_run.Lts as lts
 use Rattle.text.proofs.graph.answer_graph.Reads as answer-graph-reads
 
--- src/lib.rt:40:9
 array-share-prefix-starts : tie.Need-array-share-prefix-starts
 array-share-prefix-starts c = search needs
 
--- src/lib.rt:40:9
 slice-aggregate-answer-graph : tie.Need-slice-aggregate-answer-graph
 slice-aggregate-answer-graph c =
     let s = c .before .before .before .before .before in
     part-length (s .args .file .«start_count») (s .args .file .starts) (omega (arith, s .pre))
 
--- src/lib.rt:41:9
 array-share-prefix-columns : tie.Need-array-share-prefix-columns
 array-share-prefix-columns c = search needs
 
--- src/lib.rt:41:9
 slice-aggregate-answer-graph-2 : tie.Need-slice-aggregate-answer-graph-2
 slice-aggregate-answer-graph-2 c =
     let s = c .before .before .before .before .before .before in
     part-length (s .args .file .«column_count») (s .args .file .columns) (omega (arith, s .pre))
 
--- src/lib.rt:42:9
 array-share-prefix-values : tie.Need-array-share-prefix-values
 array-share-prefix-values c = search needs
 
--- src/lib.rt:42:9
 slice-aggregate-answer-graph-3 : tie.Need-slice-aggregate-answer-graph-3
 slice-aggregate-answer-graph-3 c =
     let s = c .before .before .before .before .before .before .before in
     part-length (s .args .file .«value_count») (s .args .file .values) (omega (arith, s .pre))
 
--- src/lib.rt:37:5
 answer-graph-requires : tie.Need-answer-graph-requires
 answer-graph-requires c κs =
     let s = c .before .before .before .before .before .before .before .before in
     let f = s .args .file in
     let starts = part-length (f .«start_count») (f .starts) (omega (arith, s .pre)) in
     let columns = part-length (f .«column_count») (f .columns) (omega (arith, s .pre)) in
-    (omega (arith, starts, s .pre), omega (arith, columns, s .pre), omega (arith, s .pre))
+    (omega (arith, starts, s .pre), omega (arith, columns, s .pre), omega (arith, s .pre), omega (arith, s .pre))
 
--- src/lib.rt:21:1
 same-length : tie.Need-same-length
 same-length c = search needs
 
--- src/lib.rt:21:1
 returns : tie.Need-returns
 returns c = search needs
 

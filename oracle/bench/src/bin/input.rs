@@ -23,7 +23,7 @@ struct Verdict {
 #[repr(C)]
 #[derive(Clone, Copy)]
 struct Lent {
-    lengths: [usize; 10],
+    lengths: [usize; 11],
 }
 
 // A slice crosses as two arguments, its pointer and its length.
@@ -56,15 +56,15 @@ struct Request {
     lent: Lent,
 }
 
-fn sizes(d: usize, n: usize, m: usize) -> Lent {
+fn sizes(d: usize, rounds: usize, n: usize, m: usize) -> Lent {
     let k = d + 8;
     let chunks = n.div_ceil(4096);
-    Lent { lengths: [n, n, m, m, n * k, n * k, n * k, chunks * k * k, chunks, n * d] }
+    Lent { lengths: [n, n, m, m, n * k, n * k, n * k, chunks * k * k, chunks, n * d, rounds * (k + 1)] }
 }
 
 impl Request {
     fn new(d: usize, starts: Vec<u64>, columns: Vec<u32>, values: Vec<f64>) -> Self {
-        let lent = sizes(d, starts.len() - 1, columns.len());
+        let lent = sizes(d, DEFAULTS.rounds as usize, starts.len() - 1, columns.len());
         Self { d: d as u64, params: DEFAULTS, starts, columns, values, lent }
     }
 
@@ -122,7 +122,9 @@ fn cases(tally: &mut Tally) {
     let nan = Request::new(1, vec![0, 1], vec![1], vec![f64::NAN]);
     tally.verdict("case 8: column 1, value NaN", nan.tested(), 6, 0);
     tally.verdict("case 8: column 0", nan.with(|r| r.columns[0] = 0), 7, 0);
-    let one = Request::new(1, vec![0, 1], vec![0], vec![1.0]);
+    // Case 9 asks for memory that is long enough for the most rounds.
+    let mut one = Request::new(1, vec![0, 1], vec![0], vec![1.0]);
+    one.lent = sizes(1, 1000, 1, 1);
     for (rounds, number) in [(0, 8), (1, 0), (1000, 0), (1001, 8)] {
         tally.verdict("case 9: rounds", one.with(|r| r.params.rounds = rounds), number, 0);
     }
@@ -156,10 +158,13 @@ fn refusals(tally: &mut Tally) {
     {
         tally.verdict("10: seed_std", valid.with(|r| r.params.seed_std = std), number, 0);
     }
-    for j in 0..10 {
+    for j in 0..11 {
         tally.verdict("11: lent", valid.with(|r| r.lent.lengths[j] -= 1), 11, j as u64);
         tally.verdict("11: longer", valid.with(|r| r.lent.lengths[j] += 1), 0, 0);
     }
+    tally.verdict("11: no Ritz record", valid.with(|r| r.lent.lengths[10] = 0), 11, 10);
+    tally.verdict("11: one round more", valid.with(|r| r.params.rounds += 1), 11, 10);
+    tally.verdict("11: one round less", valid.with(|r| r.params.rounds -= 1), 0, 0);
 }
 
 /// The three scans of a valid request in plain Rust, to compare with.

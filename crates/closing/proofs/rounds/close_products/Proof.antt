@@ -2,7 +2,7 @@
 use Prim.Native.Nat.{_+_}
 use Rattle.machine.specs.Closing.{symmetricIn, eigenMatrix, eigenVectors, orderIn, afterRound}
 use native.Mathlib.Omega.{arith}
-use Rattle.definition.proofs.Places.{square-most}
+use Rattle.definition.proofs.Places.{square-most, row-end}
 use Rattle.closing.proofs.Order.{order-below}
 use borrow.Author.Needs.{needs}
 use Rattle.closing.proofs.rounds.close_products.Statement.{statement}
@@ -12,7 +12,7 @@ add-k : tie.Need-add-k
 add-k c = search needs
 
 mul-stage-totals : tie.Need-mul-stage-totals
-mul-stage-totals c = omega (arith, square-most (c .before .before .before .before .args .state .asked .dims + 8) (omega arith))
+mul-stage-totals c = omega (arith, square-most (c .before .before .before .before .before .args .state .asked .dims + 8) (omega arith))
 
 stage-totals-requires : tie.Need-stage-totals-requires
 stage-totals-requires c κs = search needs
@@ -28,12 +28,30 @@ ritz-order-requires c κs = search needs
 
 after-products-requires : tie.Need-after-products-requires
 after-products-requires c κs =
-    let s = c .before .before .before .before .before .before .before .before .before .before in
+    let s = c .before .before .before .before .before .before .before .before .before .before .before in
     (s .pre .0 .asked, (s .pre .0 .progress .round, order-below _ _ _ (c .ritz-order .result) _ (c .ritz-order .ensures) (omega arith)))
+
+record-round-requires : tie.Need-record-round-requires
+record-round-requires c κs =
+    let s = c .before .before .before .before .before .before .before .before .before .before .before .before .before .before in
+    let o = c .before .before .before in
+    let a = s .args .state .asked in (
+      record { least = omega (arith, s .pre .0 .asked .dims-least); most = omega (arith, s .pre .0 .asked .dims-most) },
+      (
+        λ j l. order-below _ _ _ (o .ritz-order .result) j (o .ritz-order .ensures) l,
+        omega (arith, row-end (s .args .state .progress .round) (a .dims + 8 + 1) (a .rounds) (s .pre .0 .progress .round), s .pre .1 .1),
+      ),
+    )
+
+same-length : tie.Need-same-length
+same-length c = search needs
 
 returns : tie.Need-returns
 unfolding symmetricIn eigenMatrix eigenVectors orderIn afterRound
-returns c = rw (c .after-products .ensures, c .before .ritz-order .ensures, c .before .before .before .before .jacobi-eigen .ensures, c .before .before .before .before .before .symmetrize .ensures, c .before .before .before .before .before .before .stage-totals .ensures)
+returns c = (
+  rw (c .before .before .before .before .before .after-products .ensures, c .before .before .before .before .before .before .ritz-order .ensures, c .before .before .before .before .before .before .before .before .before .jacobi-eigen .ensures, c .before .before .before .before .before .before .before .before .before .before .symmetrize .ensures, c .before .before .before .before .before .before .before .before .before .before .before .stage-totals .ensures),
+  c .before .before .record-round .ensures,
+)
 
 pub close-products-spec : {M : Type 1} → statement M
 close-products-spec =
@@ -46,4 +64,6 @@ close-products-spec =
     jacobi-eigen-requires
     ritz-order-requires
     after-products-requires
+    record-round-requires
+    same-length
     returns)

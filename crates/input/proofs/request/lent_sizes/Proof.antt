@@ -35,13 +35,19 @@ mul-partials-2 c = omega (arith, mul-le-mul (mul-le-mul (most-chunks _ _ (c .bef
 mul-output : tie.Need-mul-output
 mul-output c = omega (arith, mul-le-mul (c .before .pre .rows) (c .before .pre .dims))
 
+add-ritz-record : tie.Need-add-ritz-record
+add-ritz-record c = search needs
+
+mul-ritz-record : tie.Need-mul-ritz-record
+mul-ritz-record c = omega (arith, mul-le-mul (c .before .pre .rounds-few) (widest _ (c .before .pre .dims)))
+
 returns : tie.Need-returns
 unfolding lentSizes
 returns c =
-    let n = c .before .args .n in let m = c .before .args .m in let d = c .before .args .d in
-    ap (λ (h : ℕ). n ∷ n ∷ m ∷ m ∷ n * (d + 8) ∷ n * (d + 8) ∷ n * (d + 8) ∷ h * (d + 8) * (d + 8) ∷ h ∷ n * d ∷ []) (c .chunk-count .ensures)
+    let n = c .before .args .n in let m = c .before .args .m in let d = c .before .args .d in let r = c .before .args .rounds in
+    ap (λ (h : ℕ). n ∷ n ∷ m ∷ m ∷ n * (d + 8) ∷ n * (d + 8) ∷ n * (d + 8) ∷ h * (d + 8) * (d + 8) ∷ h ∷ n * d ∷ r * (d + 8 + 1) ∷ []) (c .chunk-count .ensures)
 
 pub lent-sizes-spec : {M : Type 1} → statement M
 lent-sizes-spec =
     tie.close
-    (tie.spec add-k chunk-count-requires mul-block mul-partials mul-partials-2 mul-output returns)
+    (tie.spec add-k chunk-count-requires mul-block mul-partials mul-partials-2 mul-output add-ritz-record mul-ritz-record returns)

@@ -23,7 +23,7 @@ returns : tie.Need-returns
 unfolding testLent
 returns c =
     c .given .ensures
-    ∙ given-first _ 0 10 11 (c .before .first-short .ensures ∙ ap (λ (s : List ℕ). firstFrom (short (wholesOf (c .before .before .before .args .lent)) (wholesOf s)) 0 10) (c .before .before .lent-sizes .ensures)) refl
+    ∙ given-first _ 0 11 11 (c .before .first-short .ensures ∙ ap (λ (s : List ℕ). firstFrom (short (wholesOf (c .before .before .before .args .lent)) (wholesOf s)) 0 11) (c .before .before .lent-sizes .ensures)) refl
 
 pub test-lent-spec : {M : Type 1} → statement M
 test-lent-spec =

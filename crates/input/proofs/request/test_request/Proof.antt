@@ -6,7 +6,7 @@ use lib.ListN.{length}
 use Rattle.definition.specs.Arith.{ieee64}
 use Rattle.definition.specs.Memory.{wholesOf}
 use Rattle.definition.specs.Refusals.{testLent, testRequest}
-use Rattle.input.proofs.Accepted.{dims-valid, graph-valid}
+use Rattle.input.proofs.Accepted.{dims-valid, graph-valid, params-valid}
 use Rattle.input.proofs.Verdicts.{test-passes, refuses, goes-on}
 use borrow.Author.Needs.{needs}
 use Rattle.input.proofs.request.test_request.Statement.{statement}
@@ -45,12 +45,14 @@ row-count-requires c κs = search needs
 
 test-lent-requires : tie.Need-test-lent-requires
 test-lent-requires c κs =
-    let g = c .before .before .before .before in
+    let p = c .before in
+    let g = p .before .before .before in
     let d = g .before .before .before in
     let s = d .before .before .before .before .before .before .args in
     let dims = dims-valid (s .d) (test-passes (d .before .before .test-dims .ensures) (d .if1 .left)) in
     let graph = graph-valid ieee64 (s .starts .now) (s .columns .now) (s .values .now) (test-passes (g .before .before .test-graph .ensures) (g .if2 .left)) in
-    record { dims = dims .1; rows = omega (arith, graph .rows-most, c .row-count .ensures); entries = graph .entries-most }
+    let set = params-valid _ (test-passes (p .before .before .test-params .ensures) (p .if3 .left)) in
+    record { dims = dims .1; rounds-few = set .rounds-most; rows = omega (arith, graph .rows-most, c .row-count .ensures); entries = graph .entries-most }
 
 returns-4 : tie.Need-returns-4
 unfolding testRequest
@@ -62,7 +64,7 @@ returns-4 c =
     goes-on (d .before .before .test-dims .ensures) (d .if1 .left)
     (goes-on (g .before .before .test-graph .ensures) (g .if2 .left)
     (goes-on (p .before .before .test-params .ensures) (p .if3 .left)
-    (c .test-lent .ensures ∙ ap (λ (n : ℕ). testLent (s .d) n (length (s .columns .now)) (wholesOf (s .lent))) (c .before .row-count .ensures))))
+    (c .test-lent .ensures ∙ ap (λ (n : ℕ). testLent (s .d) (s .params .rounds) n (length (s .columns .now)) (wholesOf (s .lent))) (c .before .row-count .ensures))))
 
 pub test-request-spec : {M : Type 1} → statement M
 test-request-spec =

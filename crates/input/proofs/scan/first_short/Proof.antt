@@ -11,10 +11,10 @@ use Rattle.input.proofs.scan.first_short.Statement.{statement}
 use Rattle.input.proofs.scan.first_short.Tie as tie
 
 abbrev Inv-loop : tie.InvT-loop
-Inv-loop lent sizes j₀ j = firstFrom (short (wholesOf lent) (wholesOf sizes)) 0 10 ≡ firstFrom (short (wholesOf lent) (wholesOf sizes)) j (10 - j)
+Inv-loop lent sizes j₀ j = firstFrom (short (wholesOf lent) (wholesOf sizes)) 0 11 ≡ firstFrom (short (wholesOf lent) (wholesOf sizes)) j (11 - j)
 
 abbrev μ-loop : tie.MeasureT-loop
-μ-loop lent sizes j₀ j = 10 - j
+μ-loop lent sizes j₀ j = 11 - j
 
 loop-holds : tie.Need-loop-holds Inv-loop μ-loop
 loop-holds c = refl

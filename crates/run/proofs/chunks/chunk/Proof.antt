@@ -5,15 +5,15 @@ use Rattle.definition.specs.Arith.{ieee64}
 use Rattle.input.specs.Said.{verdictOf}
 use Rattle.machine.specs.State.{Lists, Lent}
 use Rattle.machine.specs.Ranges.{testChunk}
-use Rattle.state.specs.Said.{stateIn, listsIn, lentIn}
-use Rattle.ready.proofs.Ready.{chunk-ready}
+use Rattle.state.specs.Said.{stateIn, listsIn, lentAll}
+use Rattle.ready.proofs.Ready.{chunk-ready, ready-beside}
 use Rattle.run.proofs.Paths.{zero-passes, chunk-refused, chunk-taken}
 use Rattle.run.proofs.chunks.chunk.Statement.{statement}
 use Rattle.run.proofs.chunks.chunk.Tie as tie
 
 -- the function's entry, from the place after the test
 abbrev entered : tie.After-test-chunk → tie.Start
-entered t = t .before .before .before .before .before .before .before .before .before .before .before .before .before .before .before .before
+entered t = t .before .before .before .before .before .before .before .before .before .before .before .before .before .before .before .before .before
 
 -- the graph and the lent memory as they came
 abbrev graph : tie.Start → Lists ieee64
@@ -22,8 +22,8 @@ graph s = let a = s .args in listsIn (a .starts .now) (a .columns .now) (a .valu
 abbrev lent : tie.Start → Lent ieee64
 lent s =
     let a = s .args in
-    lentIn (a .inverse .now) (a .v0 .now) (a .edge-columns .now) (a .edge-weights .now) (a .block0 .now) (a .block1 .now) (a .block2 .now) (a .partials .now)
-    (a .output .now)
+    lentAll (a .inverse .now) (a .v0 .now) (a .edge-columns .now) (a .edge-weights .now) (a .block0 .now) (a .block1 .now) (a .block2 .now) (a .partials .now)
+    (a .output .now) (a .ritz-record .now)
 
 -- what the code found is the machine's test
 found : (t : tie.After-test-chunk) → let s = entered t in
@@ -51,7 +51,7 @@ work-chunk-requires c κs =
     let t = e .before .before in
     let s = entered t in
     let R = chunk-ready ieee64 (stateIn (s .args .state)) (s .args .number) (graph s) (lent s) (s .args .marks .now) (zero-passes (found t) (e .if1 .left)) in
-    (R .0, R .4)
+    (ready-beside ieee64 (stateIn (s .args .state)) (s .args .number) (graph s) (s .args .ritz-record .now) _ (R .0), R .4)
 
 same-length-3 : tie.Need-same-length-3
 same-length-3 c = search needs

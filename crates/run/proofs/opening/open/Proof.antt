@@ -9,14 +9,14 @@ use Rattle.definition.specs.Numbers.{chunks}
 use Rattle.input.specs.Said.{verdictOf, paramsOf}
 use Rattle.held.specs.Marks.{cleared}
 use Rattle.machine.specs.State.{Lists, Lent}
-use Rattle.state.specs.Said.{listsIn, lentIn}
+use Rattle.state.specs.Said.{listsIn, lentAll}
 use Rattle.run.proofs.Paths.{testOpen, open-marks, open-refused, open-taken}
 use Rattle.run.proofs.opening.open.Statement.{statement}
 use Rattle.run.proofs.opening.open.Tie as tie
 
 -- the function's entry, from the place after the test
 abbrev entered : tie.After-test-request → tie.Start
-entered t = t .before .before .before .before .before .before .before .before .before .before .before .before .before .before
+entered t = t .before .before .before .before .before .before .before .before .before .before .before .before .before .before .before
 
 -- the graph and the lent memory as they came
 abbrev graph : tie.Start → Lists ieee64
@@ -25,8 +25,8 @@ graph s = let a = s .args in listsIn (a .starts .now) (a .columns .now) (a .valu
 abbrev lent : tie.Start → Lent ieee64
 lent s =
     let a = s .args in
-    lentIn (a .inverse .now) (a .v0 .now) (a .edge-columns .now) (a .edge-weights .now) (a .block0 .now) (a .block1 .now) (a .block2 .now) (a .partials .now)
-    (a .output .now)
+    lentAll (a .inverse .now) (a .v0 .now) (a .edge-columns .now) (a .edge-weights .now) (a .block0 .now) (a .block1 .now) (a .block2 .now) (a .partials .now)
+    (a .output .now) (a .ritz-record .now)
 
 -- what the code found is the machine's test
 found : (t : tie.After-test-request) → let s = entered t in
@@ -34,7 +34,7 @@ found : (t : tie.After-test-request) → let s = entered t in
 found t = t .test-request .ensures
 
 -- the code's count of chunks is the machine's
-counted : (c : tie.After-chunk-count) → let s = c .before .before .before .before .before .before .before .before .before .before .before .before .before .before .before .before .before .before .before in c .chunk-count .result ≡ chunks (length (s .args .starts .now) - 1)
+counted : (c : tie.After-chunk-count) → let s = c .before .before .before .before .before .before .before .before .before .before .before .before .before .before .before .before .before .before .before .before in c .chunk-count .result ≡ chunks (length (s .args .starts .now) - 1)
 counted c = c .chunk-count .ensures ∙ ap chunks (c .before .before .row-count .ensures)
 
 test-request-requires : tie.Need-test-request-requires

@@ -18,13 +18,17 @@ close-stage-requires c κs = search needs
 same-length : tie.Need-same-length
 same-length c = search needs
 
+same-length-2 : tie.Need-same-length-2
+same-length-2 c = search needs
+
 returns : tie.Need-returns
 unfolding cleared
 returns c =
-    let k = c .before .before .before .before in
-    (c .close-stage .ensures, c .before .before .before .clear-marks .ensures ∙ ap (λ (n : ℕ). cleared n (k .before .before .before .before .before .before .args .marks .now)) (k .chunk-count .ensures))
+    let t = c .before .before in
+    let k = t .before .before .before .before .before in
+    (t .close-stage .ensures .0, (t .before .before .before .before .clear-marks .ensures ∙ ap (λ (n : ℕ). cleared n (k .before .before .before .before .before .before .before .args .marks .now)) (k .chunk-count .ensures), t .close-stage .ensures .1))
 
 pub close-stage-spec : {M : Type 1} → statement M
 close-stage-spec =
     tie.close
-    (tie.spec chunk-count-requires clear-marks-requires close-stage-requires same-length returns)
+    (tie.spec chunk-count-requires clear-marks-requires close-stage-requires same-length same-length-2 returns)

@@ -18,23 +18,18 @@ use Rattle.printing.proofs.print_refusal.Reads as print-refusal-reads
 use Rattle.printing.proofs.print_seed.Reads as print-seed-reads
 use Rattle.text.proofs.graph.embed.Reads as embed-reads
 
--- src/graph.rt:53:9
 slice-aggregate-seed : tie.Need-slice-aggregate-seed
 slice-aggregate-seed c = search needs
 
--- src/graph.rt:54:9
 embed-requires : tie.Need-embed-requires
 embed-requires c κs = search needs
 
--- src/graph.rt:57:9
 print-refusal-requires : tie.Need-print-refusal-requires
 print-refusal-requires c κs = search needs
 
--- src/graph.rt:57:9
 same-length : tie.Need-same-length
 same-length c = search needs
 
--- src/graph.rt:57:9
 returns : tie.Need-returns
 returns c =
     let t = c .before .before .before .before .before in
@@ -42,11 +37,9 @@ returns c =
     let a = e .before .before .before .before .before .before .before .args in
     printed (a .out .now) (says-refusal (a .d) (paramsOf (a .params)) (a .starts .now) (a .columns .now) (a .values .now) (e .embed .ensures) (t .if1 .taken)) (c .before .before .print-refusal .ensures)
 
--- src/graph.rt:60:26
 row-count-requires : tie.Need-row-count-requires
 row-count-requires c κs = search needs
 
--- src/graph.rt:60:5
 print-seed-requires : tie.Need-print-seed-requires
 print-seed-requires c κs =
     let t = c .before .before .before .before in
@@ -57,11 +50,9 @@ print-seed-requires c κs =
     let dims : a .d ≤ 7 = few-dims (a .d) (paramsOf (a .params)) (a .starts .now) (a .columns .now) (a .values .now) (e .embed .ensures) (t .if1 .left) in
     ((few, dims, omega (arith, e .embed .ensures .long (t .if1 .left), ap (λ (n : ℕ). n * a .d) (c .before .before .row-count .ensures))), omega (arith, s .pre))
 
--- src/graph.rt:47:1
 same-length-2 : tie.Need-same-length-2
 same-length-2 c = search needs
 
--- src/graph.rt:47:1
 returns-2 : tie.Need-returns-2
 returns-2 c =
     let p = c .before .before .before in

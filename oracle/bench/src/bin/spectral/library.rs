@@ -22,7 +22,7 @@ pub struct Params {
 #[derive(Clone, Copy)]
 struct Sizes {
     verdict: Verdict,
-    lengths: [usize; 10],
+    lengths: [usize; 11],
 }
 
 #[repr(C)]
@@ -68,12 +68,12 @@ pub struct Embedded {
 
 const _: () = assert!(size_of::<State>() == 5688 && size_of::<Answer>() == 5704);
 
-// Each call ends with the same 13 lists, address and length of each.
+// Each call ends with the same 14 lists, address and length of each.
 macro_rules! calls {
     ($($name:ident($($word:ident: $type:ty),*) -> $answer:ty;)*) => {
         #[link(name = "threshcinch", kind = "static")]
         unsafe extern "C" {
-            fn threshcinch_lent_sizes(d: u64, rows: usize, entries: usize) -> Sizes;
+            fn threshcinch_lent_sizes(d: u64, rounds: u64, rows: usize, entries: usize) -> Sizes;
             fn threshcinch_chunk_count(rows: usize) -> usize;
             $(fn $name(
                 $($word: $type,)*
@@ -90,6 +90,7 @@ macro_rules! calls {
                 partials: *mut f64, partials_length: usize,
                 marks: *mut u8, marks_length: usize,
                 output: *mut f64, output_length: usize,
+                ritz_record: *mut f64, ritz_record_length: usize,
             ) -> $answer;)*
         }
     };
@@ -102,22 +103,23 @@ calls! {
     threshcinch_close(state: State) -> Answer;
 }
 
-/// Lent memory, lists 0 to 9, of exactly the sizes that the library asks for.
+/// Lent memory, lists 0 to 10, of exactly the sizes that the library asks for.
 pub struct Memory {
-    floats: [Vec<f64>; 8],
+    floats: [Vec<f64>; 9],
     edge_columns: Vec<u32>,
     marks: Vec<u8>,
-    lengths: [usize; 10],
+    lengths: [usize; 11],
 }
 
 impl Memory {
     pub fn new(d: usize, graph: &Graph) -> Memory {
+        let rounds = graph.request.rounds as u64;
         // SAFETY: takes and answers numbers only.
-        let sizes = unsafe { threshcinch_lent_sizes(d as u64, graph.rows(), graph.entries()) };
+        let sizes = unsafe { threshcinch_lent_sizes(d as u64, rounds, graph.rows(), graph.entries()) };
         assert_eq!(sizes.verdict.number, 0, "lent sizes refused: {:?}", sizes.verdict);
         let l = sizes.lengths;
         Memory {
-            floats: [l[0], l[1], l[3], l[4], l[5], l[6], l[7], l[9]].map(|length| vec![0.0; length]),
+            floats: [l[0], l[1], l[3], l[4], l[5], l[6], l[7], l[9], l[10]].map(|length| vec![0.0; length]),
             edge_columns: vec![0; l[2]],
             marks: vec![0; l[8]],
             lengths: l,
@@ -128,10 +130,15 @@ impl Memory {
         &self.floats[7]
     }
 
+    /// Round by round the bound that its filter used, and its Ritz values in falling order.
+    pub fn ritz_record(&self) -> &[f64] {
+        &self.floats[8]
+    }
+
     /// All lent memory together.
     pub fn bytes(&self) -> usize {
         let l = self.lengths;
-        let floats: usize = [0, 1, 3, 4, 5, 6, 7, 9].iter().map(|&i| l[i]).sum();
+        let floats: usize = [0, 1, 3, 4, 5, 6, 7, 9, 10].iter().map(|&i| l[i]).sum();
         8 * floats + 4 * l[2] + l[8]
     }
 }
@@ -142,7 +149,7 @@ pub struct Lists<'a> {
     starts: (*const u64, usize),
     columns: (*const u32, usize),
     values: (*const f64, usize),
-    floats: [(*mut f64, usize); 8],
+    floats: [(*mut f64, usize); 9],
     edge_columns: (*mut u32, usize),
     marks: (*mut u8, usize),
     lent: PhantomData<&'a mut Memory>,
@@ -156,13 +163,13 @@ unsafe impl Sync for Lists<'_> {}
 macro_rules! with_lists {
     ($name:ident($($word:expr),*), $lists:expr) => {{
         let l = $lists;
-        let [inverse, v0, weights, block0, block1, block2, partials, output] = l.floats;
+        let [inverse, v0, weights, block0, block1, block2, partials, output, ritz_record] = l.floats;
         $name(
             $($word,)*
             l.starts.0, l.starts.1, l.columns.0, l.columns.1, l.values.0, l.values.1,
             inverse.0, inverse.1, v0.0, v0.1, l.edge_columns.0, l.edge_columns.1, weights.0, weights.1,
             block0.0, block0.1, block1.0, block1.1, block2.0, block2.1, partials.0, partials.1,
-            l.marks.0, l.marks.1, output.0, output.1,
+            l.marks.0, l.marks.1, output.0, output.1, ritz_record.0, ritz_record.1,
         )
     }};
 }

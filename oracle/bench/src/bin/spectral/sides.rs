@@ -184,6 +184,12 @@ fn promised(laps: &Laps, d: usize) -> bool {
     !nan && laps.ritz.last().is_some_and(|last| last[..=d].windows(2).all(|two| two[0] > two[1]))
 }
 
+/// The held run's record has every round's Ritz values, behind the bound; the timed copy keeps no bounds.
+fn same_values(record: &[f64], d: usize, ritz: &[Vec<f64>]) -> bool {
+    let rounds = record.chunks(d + judge::OVERSAMPLE + 1);
+    rounds.len() == ritz.len() && rounds.zip(ritz).all(|(round, values)| same_seeds(&round[1..], values))
+}
+
 pub fn by_stage(graph: &Graph, limit: f64) -> Result<ByStage, String> {
     let d = graph.request.d;
     let wanted = rust(graph, 1)?.0;
@@ -198,6 +204,7 @@ pub fn by_stage(graph: &Graph, limit: f64) -> Result<ByStage, String> {
         let (seed, mut laps) = judge::on_threads(1, || judge::seed_timed(&graph.request))??;
         keep_least(&mut theirs, std::mem::take(&mut laps.laps));
         seen.same &= same_seeds(&seed, &wanted) && same_seeds(memory.output(), &wanted);
+        seen.same &= same_values(memory.ritz_record(), d, &laps.ritz);
         seen.promised &= promised(&laps, d);
         seen.runs += 1;
     }
