@@ -6,12 +6,13 @@
  * Every function of the library is proved to meet its contract (crates/threshcinch; the definitions that it cites are document 01's, in
  * crates/definition and crates/machine). None asks for anything first, except what C itself leaves to the caller: a list's address and
  * length must be those of memory that is there, aligned for its elements, and a list that is written must overlap no other list of the call;
- * and the thread must have the stack that a call takes: about 55,000 bytes (closing 54,700, the one call 43,600, a chunk 41,200, opening
- * 18,100; bindings/c/stack.c measures them).
+ * and the thread must have the stack that a call takes: about 55,000 bytes (closing 54,700, reading a run file 51,300, writing one 50,700, the
+ * one call 43,600, a chunk 41,200, opening 18,100, writing an answer 9,800; bindings/c/stack.c measures them).
  *
- * Call the short forms: threshcinch_embed, threshcinch_run_open, _run_chunk, _run_close, _run_accepted and _run_owed, and
- * threshcinch_set_seed_std. They are a few lines around the library's own functions, the long forms, and see to two things that the proofs
- * take for granted: no list is NULL, and the processor's arithmetic is IEEE 754's (THE ARITHMETIC, below).
+ * Call the short forms: threshcinch_embed, threshcinch_run_open, _run_chunk, _run_close, _run_accepted and _run_owed, threshcinch_file_write,
+ * _file_read and threshcinch_answer_write, and threshcinch_set_seed_std. They are a few lines around the library's own functions, the long
+ * forms, and see to two things that the proofs take for granted: no list is NULL, and the processor's arithmetic is IEEE 754's (THE ARITHMETIC,
+ * below).
  *
  * WHAT IS PROMISED
  * 1. Every call ends, on every graph, parameter, state and memory. Bad input is refused by a number and a place (below). A refused call
@@ -35,6 +36,21 @@
  * round, falling, NaN last. A round's places are written when its products stage (14) is closed, and by nothing else: those of rounds that
  * are not so far are as they were lent.
  *
+ * RUN FILES AND ANSWERS
+ * The text program seedrun reads run files (D, parameters and a graph, in seven lines) and prints answers (a refusal, or counts and a seed).
+ * Three functions go between these texts and a host's numbers, with the bits of every number. A writer answers how many bytes it wrote, from the
+ * text's first byte on; those behind them stay. A refused writer answers length 0, and all of the text stays. The one form of a text that the
+ * grammar allows is written, so equal numbers are equal bytes.
+ * - Writing a run file refuses, in this order: 17 where the rounds are over 400, or the starts over 65, or the columns or values over 1,024, at
+ *   the line that would hold them (2, 5, 6, 7); 1 to 10 with their places, tested as opening does; 18 where the text has too little room.
+ * - Reading refuses by 17 alone: at the first line that is wrong, missing, extra or over such a size, from 1, or at 0 for more than 32,768
+ *   bytes; the rest of the record is zeros then. 1 to 10 are not tested: opening does it. Bits of any NaN are read as one NaN.
+ * - Writing an answer takes a verdict. Where that is a refusal, its number and place are written whatever they are, and only room is tested (18).
+ *   Where it is accepted, D is tested by 1, no rows by 2, more than 64 by 17 at 0, a seed shorter than rows x D by 11 at 9, then room by 18.
+ *   Row i's numbers stand from place i x D on; those behind rows x D are not looked at. A NaN is written as 7ff8000000000000, whatever its bits.
+ * A run file has at most 32,768 bytes and an answer at most 8,192: with that much room 18 is never met. Proved too (crates/files): reading what
+ * was written gives the same D, parameters and graph; and writing what was read from a file that passes 1 to 10 gives the file's own bytes.
+ *
  * WHAT MAY BE CALLED FROM SEVERAL THREADS AT ONCE
  * - threshcinch_chunk on the same state, graph and memory, as long as no two calls that run at once have the same chunk number. It reads
  *   nothing that another chunk of its stage writes and writes only its own rows, entries, partial and mark: proved in crates/threads for
@@ -54,7 +70,8 @@
  * So each short form sets the register to its default (0x1F80: also no exception traps) for the time of the call, and then puts back the
  * whole register as it found it, with the flags of exceptions that were raised before: a call raises none. Long forms compute in whatever
  * arithmetic they find. Functions that have no short form (threshcinch_params_new, _rounds and _degree, _chunk_count, _lent_sizes) compute
- * with whole numbers alone: no register reaches them.
+ * with whole numbers alone: no register reaches them. Reader and writers of text round nothing, but the writers compare floating-point numbers,
+ * and such a comparison may see a subnormal number as zero, raise a flag, or trap: hence their short forms.
  */
 #ifndef THRESHCINCH_H
 #define THRESHCINCH_H
@@ -83,7 +100,7 @@ extern "C" {
  * that is 0 the second one too: one of them rises whenever a program that was linked before would go wrong, so that such a program does not
  * find the new one. */
 
-#define THRESHCINCH_VERSION "0.2.0"
+#define THRESHCINCH_VERSION "0.2.1"
 
 THRESHCINCH_API const char *const threshcinch_version;
 
@@ -107,7 +124,8 @@ enum threshcinch_refusal {
   THRESHCINCH_NO_RUN = 15,       /* no run is open: the empty state, or a finished one */
   THRESHCINCH_DAMAGED = 16,      /* a state field out of its range, or a list or mark that does not fit the state; never met on what a
                                     run from its opening has reached */
-  THRESHCINCH_TEXT = 17          /* text fault; only the text program seedrun answers it; place: the line, from 1 */
+  THRESHCINCH_TEXT = 17,         /* no run file, or more than one holds, or an answer of over 64 rows; place: the line, from 1, or 0 */
+  THRESHCINCH_ROOM = 18          /* the text has too little room for what is to be written */
 };
 
 /* ---- records: they cross by value, and hold numbers and arrays only, so that a host may store them as they are */
@@ -190,6 +208,34 @@ typedef struct {
   threshcinch_counts counts;
 } threshcinch_embedded;
 
+/* how much a run file holds at most, and how many bytes hold every run file and every answer */
+enum {
+  THRESHCINCH_FILE_ROUNDS = 400,
+  THRESHCINCH_FILE_STARTS = 65,
+  THRESHCINCH_FILE_ENTRIES = 1024,
+  THRESHCINCH_FILE_BYTES = 32768,
+  THRESHCINCH_ANSWER_BYTES = 8192
+};
+
+/* what a writer of text answers: how many bytes it wrote, 0 with a refusal */
+typedef struct {
+  threshcinch_verdict verdict;
+  size_t length;
+} threshcinch_written;
+
+/* a run file as it was read, zeros behind the numbers of each list; with a refusal (17) all but the verdict is zeros */
+typedef struct {
+  threshcinch_verdict verdict;
+  uint64_t d;
+  threshcinch_params params;
+  size_t start_count;
+  size_t column_count;
+  size_t value_count;
+  uint64_t starts[THRESHCINCH_FILE_STARTS];
+  uint32_t columns[THRESHCINCH_FILE_ENTRIES];
+  double values[THRESHCINCH_FILE_ENTRIES];
+} threshcinch_run_file;
+
 THRESHCINCH_ASSERT(sizeof(size_t) == 8 && sizeof(double) == 8);
 THRESHCINCH_ASSERT(sizeof(threshcinch_verdict) == 16 && offsetof(threshcinch_verdict, place) == 8);
 THRESHCINCH_ASSERT(sizeof(threshcinch_params) == 24 && offsetof(threshcinch_params, degree) == 8 && offsetof(threshcinch_params, seed_std) == 16);
@@ -203,6 +249,11 @@ THRESHCINCH_ASSERT(offsetof(threshcinch_state, progress) == 48 && offsetof(thres
 THRESHCINCH_ASSERT(offsetof(threshcinch_state, matrix) == 1968 && offsetof(threshcinch_state, vectors) == 3768 && offsetof(threshcinch_state, order) == 5568);
 THRESHCINCH_ASSERT(sizeof(threshcinch_answer) == 5704 && offsetof(threshcinch_answer, state) == 16);
 THRESHCINCH_ASSERT(sizeof(threshcinch_embedded) == 48 && offsetof(threshcinch_embedded, counts) == 16);
+THRESHCINCH_ASSERT(sizeof(threshcinch_written) == 24 && offsetof(threshcinch_written, length) == 16);
+THRESHCINCH_ASSERT(sizeof(threshcinch_run_file) == 12880);
+THRESHCINCH_ASSERT(offsetof(threshcinch_run_file, d) == 16 && offsetof(threshcinch_run_file, params) == 24);
+THRESHCINCH_ASSERT(offsetof(threshcinch_run_file, start_count) == 48 && offsetof(threshcinch_run_file, starts) == 72);
+THRESHCINCH_ASSERT(offsetof(threshcinch_run_file, columns) == 592 && offsetof(threshcinch_run_file, values) == 4688);
 
 /* ---- parameters: 5 rounds of degree 20, seed_std 1e-4, until set. A setter tests the number that it sets and no other; opening and the one
  * call test all three, so a host may also write the fields itself. */
@@ -308,6 +359,24 @@ THRESHCINCH_API threshcinch_answer threshcinch_close(
     uint8_t *marks, size_t marks_length,
     const double *output, size_t output_length,
     double *ritz_record, size_t ritz_record_length);
+
+/* the run file of a graph; refusals 17, 1 to 10, 18 in this order */
+THRESHCINCH_API threshcinch_written threshcinch_write_run(
+    uint64_t d, threshcinch_params params,
+    const uint64_t *starts, size_t starts_length,
+    const uint32_t *columns, size_t columns_length,
+    const double *values, size_t values_length,
+    uint8_t *text, size_t text_length);
+
+/* what a run file says; refusal 17 */
+THRESHCINCH_API threshcinch_run_file threshcinch_read_run(const uint8_t *text, size_t text_length);
+
+/* what seedrun prints for this verdict, these counts and this seed of so many rows; refusals 1, 2, 17, 11, 18 in this order, of a verdict that is
+ * a refusal 18 alone */
+THRESHCINCH_API threshcinch_written threshcinch_write_answer(
+    threshcinch_verdict verdict, uint64_t d, size_t rows, threshcinch_counts counts,
+    const double *seed, size_t seed_length,
+    uint8_t *text, size_t text_length);
 
 /* ---- the short forms */
 
@@ -416,9 +485,10 @@ static inline void *threshcinch_address(const void *address, size_t length) {
   return length == 0 || !address ? (void *)&nothing : (void *)(uintptr_t)address;
 }
 #define THRESHCINCH_LIST(type, of, list) (type *)threshcinch_address((of)->list, (of)->list##_length), (of)->list ? (of)->list##_length : 0
+#define THRESHCINCH_GRAPH(graph) \
+  THRESHCINCH_LIST(uint64_t, graph, starts), THRESHCINCH_LIST(uint32_t, graph, columns), THRESHCINCH_LIST(double, graph, values)
 #define THRESHCINCH_LISTS(graph, memory) \
-  THRESHCINCH_LIST(uint64_t, graph, starts), THRESHCINCH_LIST(uint32_t, graph, columns), THRESHCINCH_LIST(double, graph, values), \
-  THRESHCINCH_LIST(double, memory, inverse), THRESHCINCH_LIST(double, memory, v0), THRESHCINCH_LIST(uint32_t, memory, edge_columns), \
+  THRESHCINCH_GRAPH(graph), THRESHCINCH_LIST(double, memory, inverse), THRESHCINCH_LIST(double, memory, v0), THRESHCINCH_LIST(uint32_t, memory, edge_columns), \
   THRESHCINCH_LIST(double, memory, edge_weights), THRESHCINCH_LIST(double, memory, block0), THRESHCINCH_LIST(double, memory, block1), \
   THRESHCINCH_LIST(double, memory, block2), THRESHCINCH_LIST(double, memory, partials), THRESHCINCH_LIST(uint8_t, memory, marks), \
   THRESHCINCH_LIST(double, memory, output), THRESHCINCH_LIST(double, memory, ritz_record)
@@ -453,6 +523,52 @@ static inline threshcinch_answer threshcinch_run_close(const threshcinch_state *
   threshcinch_arithmetic_end(found);
   return answer;
 }
+
+/* ---- run files and answers. Text that is NULL is empty, whatever its length says: no room, and no run file. */
+
+#define THRESHCINCH_TEXT_OF(text, length) (uint8_t *)threshcinch_address(text, length), (text) ? (length) : 0
+
+/* Writes the run file of a graph into text with that much room; THRESHCINCH_FILE_BYTES always do. */
+static inline threshcinch_written threshcinch_file_write(uint64_t d, threshcinch_params params, const threshcinch_graph *graph, void *text, size_t room) {
+  const unsigned found = threshcinch_arithmetic_begin();
+  const threshcinch_written written = threshcinch_write_run(d, params, THRESHCINCH_GRAPH(graph), THRESHCINCH_TEXT_OF(text, room));
+  threshcinch_arithmetic_end(found);
+  return written;
+}
+
+/* Reads a run file into a record, all of which is written, and answers its verdict. */
+static inline threshcinch_verdict threshcinch_file_read(const void *text, size_t length, threshcinch_run_file *file) {
+  const unsigned found = threshcinch_arithmetic_begin();
+  *file = threshcinch_read_run(THRESHCINCH_TEXT_OF(text, length));
+  threshcinch_arithmetic_end(found);
+  return file->verdict;
+}
+
+/* The graph of a run file that was read, with the record's own lists: for as long as the record is there. */
+static inline threshcinch_graph threshcinch_file_graph(const threshcinch_run_file *file) {
+  threshcinch_graph graph;
+  graph.starts = file->starts;
+  graph.starts_length = file->start_count;
+  graph.columns = file->columns;
+  graph.columns_length = file->column_count;
+  graph.values = file->values;
+  graph.values_length = file->value_count;
+  return graph;
+}
+
+/* Writes what seedrun prints: what the one call answered (a held run has the same in the verdict and the state's counts), and the seed of so many
+ * rows. THRESHCINCH_ANSWER_BYTES always do. */
+static inline threshcinch_written threshcinch_answer_write(threshcinch_embedded answer, uint64_t d, size_t rows, const double *seed, size_t seed_length,
+                                                           void *text, size_t room) {
+  const unsigned found = threshcinch_arithmetic_begin();
+  const threshcinch_written written =
+      threshcinch_write_answer(answer.verdict, d, rows, answer.counts, (const double *)threshcinch_address(seed, seed_length), seed ? seed_length : 0,
+                               THRESHCINCH_TEXT_OF(text, room));
+  threshcinch_arithmetic_end(found);
+  return written;
+}
+
+/* ---- around a run */
 
 /* a run stands before one of its stages */
 static inline int threshcinch_is_open(const threshcinch_state *state) {
@@ -562,7 +678,8 @@ static inline const char *threshcinch_words(uint64_t number) {
     case 14: return "a chunk of this stage is not done yet";
     case 15: return "no run is open";
     case 16: return "the state, or a list for it, is damaged";
-    case 17: return "the text is not a run file";
+    case 17: return "the text is not a run file, or more than one holds";
+    case 18: return "the text has too little room";
     default: return "no refusal has this number";
   }
 }

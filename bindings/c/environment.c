@@ -1,8 +1,9 @@
 /* environment: in every floating-point environment the short forms give the bits of the default one, and leave it as it was.
  *
  * The graph (check.h) is a ring of subnormal values, two chunks long. In each environment that can change the bits the long form must change
- * them here, so that a short form that sets nothing would be found out. (Not so for opening and the setter: as they are compiled today, their
- * tests go by bits, and no environment reaches them. They are called in each all the same.)
+ * them here, so that a short form that sets nothing would be found out. (Not so for opening, the setter and those of text: as they are compiled
+ * today, no environment changes what they answer. They are called in each all the same; and the writers of text compare subnormal numbers
+ * and a NaN that signals, which would leave flags.)
  * Status: 0, or 1 with the first thing that is wrong.
  */
 #define _POSIX_C_SOURCE 200809L
@@ -10,7 +11,7 @@
 
 #include "check.h"
 
-enum { DIMS = 1, ROWS = 4200 };
+enum { DIMS = 1, ROWS = 4200, SMALL_ROWS = 30 };
 
 /* What a long form does in an environment. TRAPS is not tried: an exception that is not masked ends the process. */
 enum Unguarded { THE_SAME, OTHER_BITS, TRAPS };
@@ -47,12 +48,22 @@ typedef struct {
   size_t told;
 } Outcome;
 
+/* A run file, what was read from it, and an answer. */
+typedef struct {
+  uint8_t file[THRESHCINCH_FILE_BYTES];
+  threshcinch_written file_written;
+  threshcinch_run_file read;
+  uint8_t answer[THRESHCINCH_ANSWER_BYTES];
+  threshcinch_written answer_written;
+} Texts;
+
 /* What every environment is held to, from the default one. */
 typedef struct {
   threshcinch_params params;
   threshcinch_graph graph;
   Outcome one_call;
   Outcome held;
+  Texts texts;
 } Expected;
 
 static void as_found(const Environment *environment, const char *call) {
@@ -184,6 +195,34 @@ static void try_progress(const Environment *environment, const Expected *expecte
   if (bare != (environment->reads_zeros ? 0 : owed)) fail("%s: the long form tells %zu calls owed of %zu", environment->name, bare, owed);
 }
 
+/* Subnormal numbers all over, and a NaN that signals. */
+static void make_texts(const Environment *environment, Texts *texts) {
+  const threshcinch_graph graph = ring(SMALL_ROWS);
+  const double seed[2] = {number_of_bits(1), number_of_bits(0x7FF0000000000001u)};
+  threshcinch_params params = threshcinch_params_new();
+  threshcinch_embedded answer;
+  params.seed_std = number_of_bits(1);
+  memset(texts, 0, sizeof *texts);
+  memset(&answer, 0, sizeof answer);
+  _mm_setcsr(environment->mxcsr);
+  texts->file_written = threshcinch_file_write(DIMS, params, &graph, texts->file, sizeof texts->file);
+  as_found(environment, "writing a run file");
+  threshcinch_file_read(texts->file, texts->file_written.length, &texts->read);
+  as_found(environment, "reading a run file");
+  texts->answer_written = threshcinch_answer_write(answer, 1, 2, seed, 2, texts->answer, sizeof texts->answer);
+  as_found(environment, "writing an answer");
+  _mm_setcsr(THRESHCINCH_MXCSR);
+  accept("writing a run file", texts->file_written.verdict);
+  accept("reading a run file", texts->read.verdict);
+  accept("writing an answer", texts->answer_written.verdict);
+}
+
+static void try_texts(const Environment *environment, const Expected *expected) {
+  static Texts texts;
+  make_texts(environment, &texts);
+  if (memcmp(&texts, &expected->texts, sizeof texts)) fail("%s: a text has other bytes", environment->name);
+}
+
 typedef struct {
   const Environment *environment;
   const Expected *expected;
@@ -209,7 +248,7 @@ static void try_thread(const Environment *environment, const Expected *expected)
 }
 
 int main(void) {
-  Expected expected;
+  static Expected expected;
   /* whatever this program was linked with */
   _mm_setcsr(THRESHCINCH_MXCSR);
   expected.params = threshcinch_params_new();
@@ -218,11 +257,13 @@ int main(void) {
   expected.graph = ring(ROWS);
   expected.one_call = one_call(&environments[0], expected.params, &expected.graph);
   expected.held = held(&environments[0], expected.params, &expected.graph);
+  make_texts(&environments[0], &expected.texts);
   for (size_t at = 0; at < ENVIRONMENTS; at++) {
     try_runs(&environments[at], &expected);
     try_unguarded(&environments[at], &expected);
     try_setter(&environments[at]);
     try_progress(&environments[at], &expected);
+    try_texts(&environments[at], &expected);
     try_thread(&environments[at], &expected);
   }
   printf("environment: the same bits in %d environments, each left as it was\n", (int)ENVIRONMENTS);

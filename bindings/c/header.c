@@ -221,6 +221,15 @@ static void progress_counts_whole_stages(void) {
   threshcinch_memory_free(&memory);
 }
 
+/* Up to the last number; behind it there are none. */
+static void each_refusal_has_words_of_its_own(void) {
+  const char *const none = threshcinch_words(THRESHCINCH_ROOM + 1);
+  if (strcmp(threshcinch_words(UINT64_MAX), none)) fail("a number that is no refusal's has words");
+  for (uint64_t number = 0; number <= THRESHCINCH_ROOM; number++)
+    for (uint64_t other = number + 1; other <= THRESHCINCH_ROOM + 1; other++)
+      if (!strcmp(threshcinch_words(number), threshcinch_words(other))) fail("%u and %u have the same words", (unsigned)number, (unsigned)other);
+}
+
 int main(void) {
   const threshcinch_graph graph = ring(ROWS);
   threshcinch_memory memory = memory_for(DIMS, ROUNDS, &graph);
@@ -233,7 +242,8 @@ int main(void) {
   null_entries();
   a_setter_tests_its_own_number_alone();
   progress_counts_whole_stages();
+  each_refusal_has_words_of_its_own();
   threshcinch_memory_free(&memory);
-  printf("header: NULL lists, sizes, the Ritz record, setters and progress are as it says\n");
+  printf("header: NULL lists, sizes, the Ritz record, setters, progress and words are as it says\n");
   return 0;
 }

@@ -22,6 +22,10 @@ typedef struct Call {
   threshcinch_answer answer;
   threshcinch_embedded embedded;
   size_t calls;
+  uint8_t *text;
+  size_t room;
+  threshcinch_written written;
+  threshcinch_run_file file;
   const unsigned char *frame;
 } Call;
 
@@ -38,6 +42,10 @@ MAKES(open_run, call->answer = threshcinch_run_open(call->d, call->params, call-
 MAKES(chunk, call->answer = threshcinch_run_chunk(&call->answer.state, call->number, call->graph, call->memory))
 MAKES(close_stage, call->answer = threshcinch_run_close(&call->answer.state, call->graph, call->memory))
 MAKES(owed, call->calls = threshcinch_run_owed(&call->answer.state))
+MAKES(write_file, call->written = threshcinch_file_write(call->d, call->params, call->graph, call->text, call->room))
+MAKES(read_file, threshcinch_file_read(call->text, call->room, &call->file))
+MAKES(write_answer, call->written = threshcinch_answer_write(call->embedded, call->d, call->graph->starts_length - 1, call->memory->output,
+                                                             call->memory->output_length, call->text, call->room))
 
 static void *thread_main(void *given) {
   Call *call = (Call *)given;
@@ -68,6 +76,9 @@ typedef struct {
   size_t chunk;
   size_t close;
   size_t owed;
+  size_t write_file;
+  size_t read_file;
+  size_t write_answer;
 } Most;
 
 static void raise_to(size_t *most, size_t bytes) {
@@ -99,6 +110,29 @@ static void measure(uint64_t d, const threshcinch_graph *graph, Most *most) {
   threshcinch_memory_free(&memory);
 }
 
+/* A run file both ways, and an answer; from one that is refused no text comes. */
+static void measure_texts(uint64_t d, const threshcinch_graph *graph, Most *most) {
+  static uint8_t text[THRESHCINCH_FILE_BYTES];
+  Call call;
+  memset(&call, 0, sizeof call);
+  call.d = d;
+  call.params = threshcinch_params_new();
+  threshcinch_memory memory = memory_for(d, call.params.rounds, graph);
+  call.graph = graph;
+  call.memory = &memory;
+  call.text = text;
+  call.room = sizeof text;
+  raise_to(&most->write_file, used(&call, write_file));
+  accept("writing a run file", call.written.verdict);
+  call.room = call.written.length;
+  raise_to(&most->read_file, used(&call, read_file));
+  accept("reading a run file", call.file.verdict);
+  call.room = sizeof text;
+  raise_to(&most->write_answer, used(&call, write_answer));
+  accept("writing an answer", call.written.verdict);
+  threshcinch_memory_free(&memory);
+}
+
 /* Every row has every column, the last one first: the most work for the sorting. */
 static threshcinch_graph dense(size_t rows) {
   uint64_t *starts = (uint64_t *)calloc(rows + 1, sizeof *starts);
@@ -114,17 +148,20 @@ static threshcinch_graph dense(size_t rows) {
 }
 
 int main(void) {
-  const threshcinch_graph one_row = dense(1), large_rows = dense(200), small_rows = ring(30);
-  Most most = {0, 0, 0, 0, 0};
+  const threshcinch_graph one_row = dense(1), large_rows = dense(200), small_rows = ring(30), full = dense(32);
+  Most most = {0, 0, 0, 0, 0, 0, 0, 0};
   Call idle;
   memset(&idle, 0, sizeof idle);
   /* with one row columns collapse, so that they are refreshed and zeroed */
   measure(7, &one_row, &most);
   measure(7, &small_rows, &most);
   measure(1, &large_rows, &most);
+  measure_texts(7, &one_row, &most);
+  measure_texts(7, &full, &most);
   printf("stack: the one call %zu bytes, opening %zu, a chunk %zu, closing %zu, calls owed %zu; a thread that calls nothing %zu\n", most.embed,
          most.open, most.chunk, most.close, most.owed, used(&idle, nothing));
-  const size_t all[] = {most.embed, most.open, most.chunk, most.close, most.owed};
+  printf("stack: writing a run file %zu bytes, reading one %zu, writing an answer %zu\n", most.write_file, most.read_file, most.write_answer);
+  const size_t all[] = {most.embed, most.open, most.chunk, most.close, most.owed, most.write_file, most.read_file, most.write_answer};
   for (size_t at = 0; at < sizeof all / sizeof *all; at++)
     if (all[at] > SAID) fail("a call takes more than the %d bytes that the header says", SAID);
   return 0;

@@ -73,7 +73,7 @@ threshcinch_verdict reading_sizes_verdict(uint64_t d, uint64_t rounds, size_t ro
   return reading_takes_whole(rounds) ? told(0, 0) : told(8, 0);
 }
 
-static threshcinch_verdict fault_of_request(const call *c) {
+threshcinch_verdict reading_file(const call *c) {
   const lists *l = &c->lists;
   size_t starts = l->of[STARTS].length, columns = l->of[COLUMNS].length;
   if (c->dims < 1 || c->dims > MOST_DIMS) return told(1, 0);
@@ -84,8 +84,14 @@ static threshcinch_verdict fault_of_request(const call *c) {
   if (is_told(v)) return v;
   if (!reading_takes_whole(c->params.rounds)) return told(8, 0);
   if (!reading_takes_whole(c->params.degree)) return told(9, 0);
-  if (!reading_takes_seed_std(c->params.seed_std)) return told(10, 0);
-  int lent = first_short(l, LENT, c->dims, c->params.rounds, starts - 1, columns);
+  return reading_takes_seed_std(c->params.seed_std) ? told(0, 0) : told(10, 0);
+}
+
+static threshcinch_verdict fault_of_request(const call *c) {
+  const lists *l = &c->lists;
+  threshcinch_verdict v = reading_file(c);
+  if (is_told(v)) return v;
+  int lent = first_short(l, LENT, c->dims, c->params.rounds, l->of[STARTS].length - 1, l->of[COLUMNS].length);
   return lent < LISTS ? told(11, (uint64_t)(lent - LENT)) : told(0, 0);
 }
 

@@ -8,6 +8,9 @@
 /* number and place that the call must answer */
 threshcinch_verdict reading(const call *c);
 
+/* 1 to 10 alone: D, the graph and the parameters, whatever is lent */
+threshcinch_verdict reading_file(const call *c);
+
 /* whether every field of a state is in its range */
 int reading_state(const threshcinch_state *s);
 

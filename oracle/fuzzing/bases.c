@@ -4,6 +4,7 @@
 #include <stdlib.h>
 #include <string.h>
 
+#include "pick.h"
 #include "proved.h"
 
 enum { MOST_STORED = 2000, MOST_LINE = 40000, SMALL = 600 };
@@ -18,8 +19,6 @@ const char sample[] =
     "values=3ff0000000000000\n";
 
 /* ---- numbers at edges. 18446744073709551615 is 2^64 - 1, and 4294967295 is 2^32 - 1. */
-
-#define PICK(r, list) (list)[random_below(r, sizeof(list) / sizeof *(list))]
 
 static const char *const right_decimals[] = {"0",
                                              "1",

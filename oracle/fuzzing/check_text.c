@@ -1,10 +1,10 @@
-#include <stdio.h>
 #include <string.h>
 
 #include "checks.h"
 #include "guarded.h"
 #include "reading.h"
 #include "tally.h"
+#include "written.h"
 
 enum { MOST_ROWS = 64, MOST_DIMS = 7, MOST_WIDTH = 15, ROOM_MORE = 64, TEXT_FAULT = 17 };
 
@@ -65,40 +65,19 @@ static uint64_t run_cost(const plain_run *run) {
 
 /* ---- the text that is due */
 
-typedef struct {
-  size_t length;
-  char bytes[2 * LEAST_ROOM];
-} due_text;
-
-static void due_refusal(due_text *due, uint64_t number, uint64_t place) {
-  due->length =
-      (size_t)snprintf(due->bytes, sizeof due->bytes, "answer=%llu\nat=%llu\n", (unsigned long long)number, (unsigned long long)place);
-}
-
-static void due_head(due_text *due, size_t rows, const threshcinch_counts *c) {
-  due->length = (size_t)snprintf(due->bytes, sizeof due->bytes, "answer=0\nn=%zu\npasses=%zu\nrefreshed=%zu\nzeroed=%zu\nisolated=%zu\n",
-                                 rows, c->passes, c->refreshed, c->zeroed, c->isolated);
-}
-
-/* "a NaN always as 7ff8000000000000" */
-static void due_rows(due_text *due, size_t rows, size_t dims) {
-  for (size_t i = 0; i < rows * dims; i++) {
-    uint64_t bits;
-    memcpy(&bits, &output[i], sizeof bits);
-    if (output[i] != output[i]) bits = UINT64_C(0x7ff8000000000000);
-    due->length += (size_t)snprintf(due->bytes + due->length, sizeof due->bytes - due->length, "%s%016llx%s",
-                                    i % dims ? "," : "row=", (unsigned long long)bits, i % dims + 1 == dims ? "\n" : "");
-  }
-}
-
 static size_t rows_without_entries(const plain_run *run) {
   size_t count = 0;
   for (size_t i = 0; i + 1 < run->start_count; i++) count += run->starts[i] == run->starts[i + 1];
   return count;
 }
 
+static void due_refusal(text *due, uint64_t number, uint64_t place) {
+  answer_parts parts = {.verdict = {number, place}};
+  written_answer(due, &parts);
+}
+
 /* Passes and isolated rows follow from the file alone; the other counts and the seed are the library's. */
-static void due_seed(due_text *due, const plain_run *run, const call *c) {
+static void due_seed(text *due, const plain_run *run, const call *c) {
   outcome out;
   size_t rows = run->start_count - 1;
   call_make(c, &out);
@@ -108,14 +87,14 @@ static void due_seed(due_text *due, const plain_run *run, const call *c) {
   if (out.verdict.number) differ("verdict", "the library refuses with %llu", (unsigned long long)out.verdict.number);
   if (out.counts.passes != run->rounds * (run->degree + 1)) differ("passes", "the library's count is %zu", out.counts.passes);
   if (out.counts.isolated != rows_without_entries(run)) differ("isolated", "the library's count is %zu", out.counts.isolated);
-  due_head(due, rows, &out.counts);
-  due_rows(due, rows, run->d);
+  answer_parts parts = {{0, 0}, run->d, rows, out.counts, output, MOST_ROWS * MOST_DIMS};
+  written_answer(due, &parts);
   told.rows += rows;
   told.longest_runs += run->rounds == MOST_ROUNDS;
 }
 
 /* Succeeds unless the run is not asked for. */
-static int find_due(due_text *due, int *number, const plain_run *run, random_source *r) {
+static int find_due(text *due, int *number, const plain_run *run, random_source *r) {
   static call c;
   *number = TEXT_FAULT;
   if (run->fault != NO_FAULT) {
@@ -141,35 +120,15 @@ static int find_due(due_text *due, int *number, const plain_run *run, random_sou
 /* ---- the call */
 
 static guarded room;
-static uint8_t pattern[LEAST_ROOM + ROOM_MORE];
-
-static void make_room(void) {
-  room = guarded_new(sizeof pattern);
-  for (size_t i = 0; i < sizeof pattern; i++) pattern[i] = (uint8_t)(0xA0 + i % 31);
-}
-
-static uint8_t *patterned(size_t length) {
-  if (!room.end) make_room();
-  uint8_t *at = guarded_last(&room, length);
-  memcpy(at, pattern, length);
-  return at;
-}
-
-/* the first byte from `from` on that is not the pattern's, or `length` */
-static size_t first_written(const uint8_t *at, size_t from, size_t length) {
-  if (from < length && !memcmp(at + from, pattern + from, length - from)) return length;
-  while (from < length && at[from] == pattern[from]) from++;
-  return from;
-}
 
 static void check_short_room(const uint8_t *bytes, size_t length, random_source *r) {
   size_t offered = once_in(r, 2) ? LEAST_ROOM - 1 : random_below(r, LEAST_ROOM);
-  uint8_t *at = patterned(offered);
+  uint8_t *at = lent_bytes(&room, offered);
   size_t said = text_answer(bytes, length, at, offered);
   if (breaks("room-length")) said = 1;
   if (offered && breaks("room-wrote")) at[offered - 1] ^= 1;
   if (said) differ("short room", "the answer is %zu in a room of %zu bytes", said, offered);
-  if (first_written(at, 0, offered) < offered) differ("short room", "byte %zu was written", first_written(at, 0, offered));
+  if (lent_first_written(at, 0, offered) < offered) differ("short room", "byte %zu was written", lent_first_written(at, 0, offered));
   told.short_rooms++;
 }
 
@@ -186,30 +145,25 @@ static void break_text(uint8_t *at, size_t *said, int number) {
   if (breaks("text-behind")) at[*said] ^= 1;
 }
 
-static size_t first_other(const due_text *due, const uint8_t *at, size_t length) {
-  size_t i = 0;
-  while (i < length && i < due->length && at[i] == (uint8_t)due->bytes[i]) i++;
-  return i;
-}
-
 answer check_text(const plain_run *run, const uint8_t *bytes, size_t length, random_source *r) {
-  static due_text due;
+  static text due;
   answer a = {NOT_ASKED, 0, NULL};
   if (once_in(r, 16)) check_short_room(bytes, length, r);
   if (!find_due(&due, &a.number, run, r)) return (answer){NOT_ASKED, 0, NULL};
   size_t offered = LEAST_ROOM + (once_in(r, 4) ? random_below(r, ROOM_MORE + 1) : 0);
-  uint8_t *at = patterned(offered);
+  uint8_t *at = lent_bytes(&room, offered);
   size_t said = text_answer(bytes, length, at, offered);
   break_text(at, &said, a.number);
-  size_t other = first_other(&due, at, said <= offered ? said : offered);
+  size_t other = text_first_other(&due, at, said <= offered ? said : offered);
   if (said != due.length)
     differ("text length", "it is %zu, not %zu; the texts differ from byte %zu on", said, due.length, other);
   else if (other < said)
     differ("text", "it differs from byte %zu on", other);
-  if (first_written(at, due.length, offered) < offered)
-    differ("text behind", "byte %zu was written", first_written(at, due.length, offered));
+  if (lent_first_written(at, due.length, offered) < offered)
+    differ("text behind", "byte %zu was written", lent_first_written(at, due.length, offered));
   told.answers[a.number]++;
   a.length = said <= offered ? said : 0;
   a.text = at;
+  check_printed_again(a.text, a.length, r);
   return a;
 }

@@ -4,9 +4,8 @@
 #include <string.h>
 
 #include "bases.h"
+#include "pick.h"
 #include "proved.h"
-
-#define PICK(r, list) (list)[random_below(r, sizeof(list) / sizeof *(list))]
 
 /* ---- a byte */
 

@@ -1,14 +1,17 @@
-/* fuzz: damaged run files through the proved reader and the proved text program, against a second reading of document 01.
+/* fuzz: damaged run files through the proved readers and the proved text program, and graphs and answers through the proved writers,
+ * against second readings of document 01 and request W2.
  *
- *   fuzz [--from NUMBER] [--count FILES] [--program PATH --programs FILES] [--script PATH] [--keep FOLDER] [--first]
+ *   fuzz [--from NUMBER] [--count FILES] [--writers GRAPHS] [--program PATH --programs FILES] [--script PATH] [--keep FOLDER] [--first]
  *        [--break KIND] --cases RUNS [FILE...]
  *
+ *   --count                how many files from the number on
+ *   --writers              how many graphs, and as many answers, from the number on
  *   --cases RUNS, FILE     what is damaged: stored cases (oracle/vectors/runs.txt), and run files
  *   --program, --programs  seedrun, and how many of the files it gets
  *   --script               seedrun's script, which gets one in twenty of those as well
  *   --keep                 where the first files that differ are kept
  *   --first                ends at the first difference
- *   --break                the fault that the self-test puts in; `fuzz --breaks` prints the kinds
+ *   --break                the fault that the self-test puts in; `fuzz --breaks files` and `fuzz --breaks writers` print the kinds
  *
  * Status 0: no difference. 1: some, or a crash. 2: it could not be done. */
 #include <signal.h>
@@ -19,65 +22,17 @@
 #include <unistd.h>
 
 #include "bases.h"
+#include "breakages.h"
 #include "checks.h"
 #include "damage.h"
 #include "guarded.h"
 #include "program.h"
 #include "tally.h"
 
-enum { TOLD_EVERY = 100000, SCRIPT_SHARE = 20, LONGEST_CALL = 20, SIGNAL_STACK = 1 << 17 };
-
-static const char *const breakages[] = {"right",
-                                        "right-byte",
-                                        "line",
-                                        "line-0",
-                                        "line-8",
-                                        "line-of-right",
-                                        "d",
-                                        "rounds",
-                                        "degree",
-                                        "seed_std",
-                                        "seed_std-of-fault",
-                                        "start_count",
-                                        "column_count",
-                                        "value_count",
-                                        "start",
-                                        "column",
-                                        "value",
-                                        "value-nan",
-                                        "start-behind",
-                                        "column-behind",
-                                        "value-behind",
-                                        "fault-list",
-                                        "verdict",
-                                        "passes",
-                                        "isolated",
-                                        "room-length",
-                                        "room-wrote",
-                                        "text-fault",
-                                        "text-line",
-                                        "text-refusal",
-                                        "text-place",
-                                        "text-rows",
-                                        "text-row",
-                                        "text-newline",
-                                        "text-shorter",
-                                        "text-longer",
-                                        "text-behind",
-                                        "program-byte",
-                                        "program-shorter",
-                                        "program-longer",
-                                        "program-status",
-                                        "program-signal",
-                                        "program-error",
-                                        "script-silent",
-                                        "script-number",
-                                        "script-lines",
-                                        "crash",
-                                        "endless"};
+enum { TOLD_EVERY = 100000, WRITERS_TOLD_EVERY = 20000, SCRIPT_SHARE = 20, LONGEST_CALL = 20, SIGNAL_STACK = 1 << 17 };
 
 typedef struct {
-  uint64_t from, count, programs;
+  uint64_t from, count, writers, programs;
   const char *program, *script;
   int ends_at_first; /* difference */
 } options;
@@ -89,7 +44,8 @@ typedef struct {
 __attribute__((force_align_arg_pointer)) static void on_signal(int signal) {
   program_stop();
   if (signal == SIGALRM)
-    fail("file %llu: a program did not end in %d seconds, and may only have waited", (unsigned long long)told.number, LONGEST_WAIT);
+    fail("%s %llu: a program did not end in %d seconds, and may only have waited", told.made, (unsigned long long)told.number,
+         LONGEST_WAIT);
   differ(signal == SIGVTALRM ? "endless" : "crash", "signal %d", signal);
   fflush(stdout);
   _exit(1);
@@ -143,20 +99,34 @@ static int is_programs_turn(const options *o, uint64_t i, const answer *a, rando
   return a->number != 17 || done + 1 < due || i + 1 == o->count || once_in(r, 16);
 }
 
+static void raise_some(void) {
+  if (breaks("crash")) raise(SIGSEGV);
+  if (breaks("endless")) raise(SIGVTALRM);
+}
+
+/* What the library reads is written again where the file is right. */
+static void through_library(const text *file, const plain_run *run, const uint8_t *bytes, random_source *r) {
+  static threshcinch_run_file read;
+  check_library_reading("library", run, bytes, file->length, &read);
+  if (run->fault == NO_FAULT) told.rewritten[check_written_again("rewrite", &read, file, r)]++;
+}
+
 static void check_file(const options *o, uint64_t i, const guarded *input) {
   static text file;
   static plain_run run;
-  random_source r = {random_hash(~(o->from + i))};
+  random_source r = {random_hash(~(o->from + i))}, library = {random_hash(r.state)};
   told.number = o->from + i;
+  told.made = "file";
   told.file = &file;
   told.damage = damage_make(&file, told.number);
+  told.how = damage_name(told.damage);
   uint8_t *bytes = guarded_last(input, file.length);
   memcpy(bytes, file.bytes, file.length);
   grammar_read(&run, bytes, file.length);
   count_file(&file, &run);
-  if (breaks("crash")) raise(SIGSEGV);
-  if (breaks("endless")) raise(SIGVTALRM);
+  raise_some();
   check_reading(&run, bytes, file.length);
+  through_library(&file, &run, bytes, &library);
   answer a = check_text(&run, bytes, file.length, &r);
   if (memcmp(bytes, file.bytes, file.length)) differ("input", "the bytes of the file were changed");
   random_source pieces = {random_next(&r)}; /* the same ones, whether or not a turn was drawn before */
@@ -174,11 +144,27 @@ static void check_files(const options *o) {
   limit_seconds(0);
 }
 
-/* ---- the command */
+/* ---- a graph and an answer */
 
-static void print_breakages(void) {
-  for (size_t i = 0; i < sizeof breakages / sizeof *breakages; i++) printf("%s\n", breakages[i]);
+static void check_number(uint64_t number) {
+  random_source of_graph = {random_hash(random_hash(number) ^ 1)}, of_answer = {random_hash(random_hash(number) ^ 2)};
+  told.number = number;
+  check_graph(&of_graph);
+  raise_some();
+  check_answer_parts(&of_answer);
 }
+
+static void check_numbers(const options *o) {
+  for (uint64_t i = 0; i < o->writers && !(o->ends_at_first && told.differences); i++) {
+    limit_seconds(LONGEST_CALL);
+    check_number(o->from + i);
+    if ((i + 1) % WRITERS_TOLD_EVERY == 0)
+      fprintf(stderr, "%llu graphs and answers, %llu differences\n", (unsigned long long)(i + 1), (unsigned long long)told.differences);
+  }
+  limit_seconds(0);
+}
+
+/* ---- the command */
 
 /* Succeeds if the word takes the next one. */
 static int read_option(options *o, const char *word, const char *next) {
@@ -186,6 +172,8 @@ static int read_option(options *o, const char *word, const char *next) {
     o->from = strtoull(next, NULL, 10);
   else if (!strcmp(word, "--count"))
     o->count = strtoull(next, NULL, 10);
+  else if (!strcmp(word, "--writers"))
+    o->writers = strtoull(next, NULL, 10);
   else if (!strcmp(word, "--programs"))
     o->programs = strtoull(next, NULL, 10);
   else if (!strcmp(word, "--program"))
@@ -217,14 +205,12 @@ static void read_options(options *o, int count, char **words) {
 }
 
 int main(int count, char **words) {
-  options o = {0, 0, 0, NULL, NULL, 0};
-  if (count == 2 && !strcmp(words[1], "--breaks")) {
-    print_breakages();
-    return 0;
-  }
+  options o = {0, 0, 0, 0, NULL, NULL, 0};
+  if (count == 3 && !strcmp(words[1], "--breaks")) return breakages_print(words[2]) ? 0 : 2;
   read_options(&o, count, words);
   watch_signals();
   check_files(&o);
+  check_numbers(&o);
   tally_print();
   return told.differences ? 1 : 0;
 }

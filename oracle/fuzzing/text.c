@@ -36,6 +36,13 @@ void text_add_words(text *t, const char *format, ...) {
   text_add(t, words, (size_t)length < sizeof words ? (size_t)length : sizeof words - 1);
 }
 
+size_t text_first_other(const text *t, const uint8_t *bytes, size_t length) {
+  size_t most = length < t->length ? length : t->length, i = 0;
+  if (!memcmp(t->bytes, bytes, most)) return most;
+  while (t->bytes[i] == bytes[i]) i++;
+  return i;
+}
+
 /* ---- lines */
 
 /* the place of the next such byte, or the end */

@@ -27,6 +27,9 @@ void text_set(text *t, const void *bytes, size_t length);
 void text_add(text *t, const void *bytes, size_t length);
 void text_add_words(text *t, const char *format, ...) __attribute__((format(printf, 2, 3)));
 
+/* the first place at which the text and these bytes differ, or where the shorter one ends */
+size_t text_first_other(const text *t, const uint8_t *bytes, size_t length);
+
 /* Pieces between newlines; the last one may have none. A text has at least one, which may be empty. */
 size_t text_line_count(const text *t);
 

@@ -52,6 +52,13 @@ class Installed(unittest.TestCase):
             self.assertEqual((status, err, out.splitlines()[2:]), (0, "", digests))
             self.assertEqual(self.run_command(sys.executable, "-m", "threshcinch", "digest", graph, output), (0, "\n".join(digests) + "\n", ""))
 
+    def test_run_file(self):
+        with tempfile.TemporaryDirectory() as folder:
+            graph = os.path.join(folder, "graph.npz")
+            sparse.save_npz(graph, ring(50))
+            text = threshcinch.write_run(ring(50), 3).decode()
+            self.assertEqual(self.run_command(COMMAND, "run-file", graph, "--dims", "3"), (0, text, ""))
+
     def test_status(self):
         status, out, err = self.run_command(COMMAND, "digest", "nothing")
         self.assertEqual((status, out, err), (1, "", "threshcinch: [Errno 2] No such file or directory: 'nothing'\n"))

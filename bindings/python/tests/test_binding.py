@@ -16,7 +16,7 @@ import numpy as np
 from scipy import sparse
 
 import threshcinch
-from threshcinch import Counts, Refusal, _graph, _library, _refusal, spectral_embedding
+from threshcinch import Counts, Refusal, _graph, _library, _refusal, _text, read_run, spectral_embedding, write_answer, write_run
 
 from .common import PACKAGE, ROOT, VECTORS, Case, Stop, Watch, bits, csr, digest, oracle_runs, random_graph, ring, splitmix
 
@@ -459,6 +459,20 @@ class Environments(Case):
             for name, found in self.in_each(lambda: spectral_embedding(graph, seed_std=seed_std, **self.words)):
                 self.same(found, expected)
 
+    def test_texts(self):
+        """Subnormal numbers are neither refused nor changed, on either way."""
+
+        def work():
+            text = write_run(self.graph, seed_std=5e-324)
+            file = read_run(text)
+            return text, write_run(file.graph, file.dims, file.rounds, file.degree, file.seed_std), write_answer((seed, Counts(1, 2, 3, 4)))
+
+        seed = self.graph.data[:60].reshape(30, 2)
+        expected = work()
+        self.assertIn(b"seed_std=0000000000000001\n", expected[0])
+        for name, found in self.in_each(work):
+            self.assertEqual(found, expected, name)
+
     def test_a_thread_has_its_makers_environment(self):
         expected = spectral_embedding(self.graph, **self.words)
         found = []
@@ -485,17 +499,24 @@ class Module(Case):
     def kind(self, kind):
         """A field's kind in the header's words; size_t and uint64_t are one kind to ctypes."""
         kind = kind._type_ if issubclass(kind, ctypes.Array) else kind
-        names = {ctypes.c_uint64: "whole", ctypes.c_double: "double"}
-        return names.get(kind) or "threshcinch_" + kind.__name__.lower()
+        names = {ctypes.c_uint64: "whole", ctypes.c_uint32: "uint32_t", ctypes.c_double: "double"}
+        return names.get(kind) or "threshcinch" + re.sub("[A-Z]", lambda letter: "_" + letter.group().lower(), kind.__name__)
 
     def test_records_are_the_headers(self):
         for record, size in _library.SIZES.items():
             name = self.kind(record)
             with self.subTest(record=name):
                 body = re.search(r"typedef struct \{([^}]*)\} " + name + ";", self.header()).group(1)
-                fields = re.findall(r"(\w+) (\w+)(?:\[\d+\])?;", re.sub(r"\b(size_t|uint64_t)\b", "whole", body))
+                fields = re.findall(r"(\w+) (\w+)(?:\[\w+\])?;", re.sub(r"\b(size_t|uint64_t)\b", "whole", body))
                 self.assertEqual([(self.kind(kind), field) for field, kind in record._fields_], fields)
                 self.assertIn(f"sizeof({name}) == {size}", self.header())
+
+    def test_sizes_of_texts_are_the_headers(self):
+        found = {name: int(number) for name, number in re.findall(r"THRESHCINCH_((?:FILE|ANSWER)_\w+) = (\d+)", self.header())}
+        starts, columns, values = _text._MOST
+        self.assertEqual(columns, values)
+        held = {"FILE_ROUNDS": 400, "FILE_STARTS": starts, "FILE_ENTRIES": columns, "FILE_BYTES": _text.FILE_BYTES, "ANSWER_BYTES": _text.ANSWER_BYTES}
+        self.assertEqual(found, held)
 
     def test_words_are_the_headers(self):
         found = {int(number): words for number, words in re.findall(r'case (\d+): return "([^"]*)";', self.header())}

@@ -17,7 +17,7 @@ import numpy as np
 from scipy import sparse
 
 import threshcinch
-from threshcinch import Run, _command, graph_digest, seed_digest, spectral_embedding
+from threshcinch import Run, _command, graph_digest, read_run, seed_digest, spectral_embedding, write_run
 from threshcinch._bar import bar
 from threshcinch._look import warnings_about
 
@@ -26,6 +26,8 @@ from .common import HERE, PACKAGE, bits, csr, random_graph
 
 class Files(unittest.TestCase):
     """A folder, and the command run within this process."""
+
+    output_file = io.BytesIO
 
     def setUp(self):
         folder = tempfile.TemporaryDirectory()
@@ -43,7 +45,7 @@ class Files(unittest.TestCase):
 
     def command(self, *words):
         """Status, standard output and standard error."""
-        out, err = io.StringIO(), io.StringIO()
+        out, err = io.TextIOWrapper(self.output_file(), "utf-8"), io.StringIO()
         with contextlib.redirect_stdout(out), contextlib.redirect_stderr(err), warnings.catch_warnings():
             # NumPy leaves a refused file to be closed by Python, which unittest has Python tell
             warnings.simplefilter("ignore", ResourceWarning)
@@ -51,7 +53,8 @@ class Files(unittest.TestCase):
                 status = _command.main([str(word) for word in words])
             except SystemExit as ended:
                 status = ended.code
-        return status, out.getvalue(), err.getvalue()
+        out.flush()
+        return status, out.buffer.getvalue().decode(), err.getvalue()
 
     def seed(self, graph, *words):
         return self.command("seed", self.stored(graph), "-o", self.output, *words)
@@ -162,6 +165,108 @@ class Warnings(Files):
         self.warned(csr([0, 1, 2], [1, 0], [1.0, 1.0]), f"columns were zeroed {counts.zeroed} times")
 
 
+class RunFiles(Files):
+    def run_file(self, graph, *words):
+        return self.command("run-file", self.stored(graph), *words)
+
+    def test_the_text_and_nothing_else(self):
+        self.assertEqual(self.run_file(self.graph, "--dims", 2), (0, write_run(self.graph).decode(), ""))
+
+    def test_options(self):
+        words = ("--dims", 3, "--rounds", 400, "--degree", 7, "--seed-std", 5e-324)
+        self.assertEqual(self.run_file(self.graph, *words), (0, write_run(self.graph, 3, 400, 7, 5e-324).decode(), ""))
+
+    def test_the_defaults_are_seeds(self):
+        """What is left out is the library's for both commands: a run of the file has the seed's bits."""
+        _, out, _ = self.run_file(self.graph, "--dims", 2)
+        file = read_run(out.encode())
+        self.assertEqual((file.rounds, file.degree, file.seed_std), (5, 20, 1e-4))
+        self.seed(self.graph)
+        seed = spectral_embedding(file.graph, file.dims, file.rounds, file.degree, file.seed_std)[0]
+        np.testing.assert_array_equal(bits(np.load(self.output)), bits(seed))
+
+    def test_entries_are_taken_as_they_stand(self):
+        """Neither sorted nor summed, with seed's warnings on standard error alone."""
+        graph = csr([0, 3, 5], [1, 1, 0, 1, 0], [1.0, 2.0, -0.0, 8.0, 3.0])
+        status, out, err = self.run_file(graph, "--dims", 2)
+        self.assertEqual((status, out), (0, write_run(graph).decode()))
+        self.assertIn("\ncolumns=1,1,0,1,0\n", out)
+        self.assertEqual(err, "".join(f"threshcinch: warning: {line}\n" for line in warnings_about(graph)))
+        self.assertEqual(err.count("\n"), 1)
+
+    def test_warnings(self):
+        graph = sparse.block_diag([random_graph(20, 4, 2), random_graph(20, 4, 3)], "csr")
+        graph.data[0] += 1.0
+        status, out, err = self.run_file(graph, "--dims", 2)
+        self.assertEqual((status, out), (0, write_run(graph).decode()))
+        self.assertEqual(err.count("threshcinch: warning: the graph "), 2)
+        self.assertIn("is not symmetric: 2 places differ", err)
+        self.assertIn("has 2 components", err)
+
+    def test_other_formats_are_converted_with_a_word(self):
+        status, out, err = self.run_file(self.graph.tocsc(), "--dims", 2)
+        self.assertEqual((status, out), (0, write_run(self.graph.tocsc().tocsr()).decode()))
+        self.assertRegex(err, r"\Athreshcinch: \S+graph.npz is stored as csc [^\n]+\n\Z")
+
+    def refused_graph(self, said, starts, columns, values, *words):
+        """Arrays as they are, into a file: SciPy looks at few of them when it reads it."""
+        rows, path = len(starts) - 1, self.path("wrong.npz")
+        np.savez(path, format=b"csr", shape=(rows, rows), indptr=np.array(starts), indices=np.array(columns, int), data=np.array(values, float))
+        self.refused(said, "run-file", path, "--dims", 2, *words)
+
+    def test_a_word_for_each_refusal(self):
+        self.refused_graph(r"refusal 17 at line 5 \(at most 64 rows\): the text is not a run file", [0] * 66, [], [])
+        self.refused_graph(r"refusal 17 at line 6 \(at most 1,024 entries\): the text", [0, 1025], [0] * 1025, [1.0] * 1025)
+        self.refused_graph("refusal 2 at 0: fewer than two row starts", [0], [], [])
+        self.refused_graph("refusal 5 at 2: the row starts do not begin at 0, fall", [0, 2, 1, 3], [0] * 3, [1.0] * 3)
+        self.refused_graph("refusal 6 at 1: a column is not below the number of rows", [0, 1, 2], [0, 2], [1.0] * 2)
+        self.refused_graph("refusal 7 at 1: a value is NaN or infinite", [0, 1, 2], [0, 0], [1.0, np.inf])
+        graph = self.stored(self.graph)
+        for said, words in (
+            (r"refusal 17 at line 2 \(rounds, at most 400\): the text is not a run file", ("2", "--rounds", 401)),
+            ("refusal 1 at 0: dimensions are not 1 to 7", ("8",)),
+            ("refusal 1 at 0: dimensions are not 1 to 7", ("-1",)),
+            ("refusal 8 at 0: rounds are not 1 to 1,000", ("2", "--rounds", "0")),
+            ("refusal 8 at 0: rounds are not 1 to 1,000", ("2", "--rounds", "-1")),
+            ("refusal 9 at 0: degree is not 1 to 1,000", ("2", "--degree", 1001)),
+            ("refusal 10 at 0: seed_std is not positive and finite", ("2", "--seed-std", "nan")),
+        ):
+            self.refused(said, "run-file", graph, "--dims", *words)
+
+    def test_every_line_that_may_be_too_long_has_words(self):
+        """17 at 7 is not met from a file, as SciPy refuses a matrix with more values than columns."""
+        self.assertEqual(sorted(_command.LINE_SIZES), [2, 5, 6, 7])
+
+    def test_the_order(self):
+        """17 before all others, then 1 to 10."""
+        self.refused_graph("refusal 17 at line 2", [0] * 65 + [1025], [99] * 1025, [np.nan] * 1025, "--rounds", 401, "--degree", 0)
+        self.refused_graph("refusal 17 at line 5", [0] * 65 + [1025], [99] * 1025, [np.nan] * 1025, "--rounds", 0, "--degree", 0)
+        self.refused_graph("refusal 17 at line 6", [0, 1025], [99] * 1025, [np.nan] * 1025, "--rounds", 0, "--degree", 0)
+        self.refused_graph("refusal 6 at 0", [0, 1024], [99] * 1024, [np.nan] * 1024, "--rounds", 0, "--degree", 0)
+        self.refused_graph("refusal 7 at 0", [0, 1024], [0] * 1024, [np.nan] * 1024, "--rounds", 0, "--degree", 0)
+        self.refused_graph("refusal 8 at 0", [0, 1], [0], [1.0], "--rounds", 0, "--degree", 0)
+
+    def test_refused_files(self):
+        pathlib.Path(self.path("text")).write_text("neither\n")
+        np.save(self.output, np.zeros((2, 2)))
+        wide = self.stored(sparse.csr_matrix((3, 4)), "wide.npz")
+        for wrong, said in ((self.path("text"), "neither"), (self.output, "not a graph"), (self.path("none"), "none"), (wide, "square")):
+            self.refused(said, "run-file", wrong, "--dims", 2)
+
+    def test_a_file_that_takes_little_at_a_time(self):
+        """As an unbuffered one may: its write answers how many bytes it took."""
+        taken = []
+
+        class Slow(io.BytesIO):
+            def write(self, data):
+                taken.append(bytes(data[:7]))
+                return len(taken[-1])
+
+        self.output_file = Slow
+        status, _, err = self.run_file(self.graph, "--dims", 2)
+        self.assertEqual((status, b"".join(taken), err), (0, write_run(self.graph), ""))
+
+
 class RefusedWords(Files):
     def test_refusals_of_the_library(self):
         graph = self.stored(self.graph)
@@ -227,7 +332,8 @@ class RefusedWords(Files):
     def test_words_not_understood(self):
         graph = self.stored(self.graph)
         whole = ("seed", graph, "-o", self.output)
-        for words in ((), ("sed",), ("digest",), ("seed", graph), whole + ("--dims", "x"), whole + ("--threads", 0), whole + ("--fast",)):
+        parts = ((), ("sed",), ("digest",), ("seed", graph), ("run-file", graph), ("run-file", "--dims", 2), ("run-file", graph, "--dims", 2, "-o", "x"))
+        for words in (*parts, whole + ("--dims", "x"), whole + ("--threads", 0), whole + ("--fast",)):
             status, out, err = self.command(*words)
             self.assertEqual((status, out), (2, ""))
             self.assertIn("usage: threshcinch", err)
@@ -238,6 +344,13 @@ class RefusedWords(Files):
             self.assertEqual(status, 0)
             for words in ("'threshcinch graph 1'", "'threshcinch seed 1'", "7ff8000000000000", "Status: 0"):
                 self.assertIn(words, out)
+
+    def test_help_has_a_run_files_sizes(self):
+        status, out, _ = self.command("run-file", "--help")
+        self.assertEqual(status, 0)
+        for words in ("at most 64 rows, 1,024 entries and 400 rounds", "--dims D", "1 to 400 (5)", "1 to 1,000 (20)", "(1e-4)", "Status: 0"):
+            self.assertIn(words, out)
+        self.assertRegex(self.command("--help")[1], r"run-file +a stored graph as a run file\n")
 
 
 class Stopped(Files):
@@ -332,17 +445,51 @@ class Bars(unittest.TestCase):
 class Processes(Files):
     """What only a process of its own shows."""
 
-    def process(self, *words, **more):
+    def process(self, *words, shell="", **more):
+        """Its standard files are as the shell's words say, and else as `more` does."""
         environment = {**os.environ, "PYTHONPATH": str(PACKAGE)}
-        return subprocess.run([sys.executable, "-m", "threshcinch", *words], env=environment, stderr=subprocess.PIPE, text=True, **more)
+        command = ["sh", "-c", f'"$0" -m threshcinch "$@" {shell}', sys.executable, *words]
+        return subprocess.run(command, env=environment, **{"stdout": subprocess.PIPE, "stderr": subprocess.PIPE, "text": True, **more})
+
+    def both(self):
+        """A command that prints, and one that writes bytes."""
+        graph = self.stored(self.graph)
+        return (("digest", graph), ("run-file", graph, "--dims", "2"))
 
     def test_as_a_module(self):
-        done = self.process("--version", stdout=subprocess.PIPE)
+        done = self.process("--version")
         self.assertEqual((done.returncode, done.stdout, done.stderr), (0, f"threshcinch {threshcinch.__version__}\n", ""))
 
     def test_a_reader_that_has_gone(self):
-        reader, writer = os.pipe()
-        os.close(reader)
-        done = self.process("digest", self.stored(self.graph), stdout=writer)
-        os.close(writer)
-        self.assertEqual((done.returncode, done.stderr), (1, "threshcinch: standard output: its reader has gone\n"))
+        for words in self.both():
+            reader, writer = os.pipe()
+            os.close(reader)
+            done = self.process(*words, stdout=writer)
+            os.close(writer)
+            self.assertEqual((done.returncode, done.stderr), (1, "threshcinch: standard output: its reader has gone\n"))
+
+    def test_a_full_output(self):
+        """With Python's buffer and without."""
+        for words in self.both():
+            for buffered in ("", "1"):
+                with mock.patch.dict(os.environ, PYTHONUNBUFFERED=buffered):
+                    done = self.process(*words, shell=">/dev/full")
+                self.assertEqual((done.returncode, done.stderr), (1, "threshcinch: standard output: No space left on device\n"))
+
+    def test_a_closed_output(self):
+        for words in self.both():
+            done = self.process(*words, shell=">&-")
+            self.assertEqual((done.returncode, done.stderr), (1, "threshcinch: standard output is closed\n"))
+
+    def test_warnings_that_nobody_hears(self):
+        """They never go to standard output, and are no failure."""
+        self.graph.data[0] += 1.0
+        for shell in ("2>&-", "2>/dev/full"):
+            done = self.process("run-file", self.stored(self.graph), "--dims", "2", shell=shell, text=False)
+            self.assertEqual((done.returncode, done.stdout, done.stderr), (0, write_run(self.graph), b""))
+
+    def test_a_run_file_through_a_pipe(self):
+        """Python reads what the command wrote, and writes it again."""
+        again = "import sys, threshcinch as t; f = t.read_run(sys.stdin.buffer.read()); sys.stdout.buffer.write(t.write_run(f.graph, *f[:4]))"
+        done = self.process("run-file", self.stored(self.graph), "--dims", "3", "--degree", "4", shell=f"| '{sys.executable}' -c '{again}'", text=False)
+        self.assertEqual((done.returncode, done.stdout, done.stderr), (0, write_run(self.graph, 3, degree=4), b""))

@@ -15,11 +15,15 @@ environment too: conversions to float64 and the library's calls are made in the 
     Refusal, LoadError      what the library, or a saved run, is refused by
     graph_digest, seed_digest
                             SHA-256 of a graph and of a seed, by which two people see that they have the same
+    write_run, read_run     a run file, the text that the program `seedrun` reads, of a graph, and back as a RunFile
+    write_answer            what `seedrun` prints, of a seed or a refusal
     python3 -m threshcinch  the command; installed also as `threshcinch`
 """
 from ._digest import graph_digest, seed_digest
 from ._refusal import LoadError, Refusal
 from ._run import Counts, Embedding, Progress, Run, spectral_embedding
+from ._text import RunFile, read_run, write_answer, write_run
 
-__version__ = "0.2.0"
-__all__ = ["Counts", "Embedding", "LoadError", "Progress", "Refusal", "Run", "graph_digest", "seed_digest", "spectral_embedding"]
+__version__ = "0.2.1"
+__all__ = ["Counts", "Embedding", "LoadError", "Progress", "Refusal", "Run", "RunFile", "graph_digest", "read_run", "seed_digest"]
+__all__ += ["spectral_embedding", "write_answer", "write_run"]

@@ -1,4 +1,4 @@
-"""The command `threshcinch`: a stored graph's seed, and digests of what is stored."""
+"""The command `threshcinch`: a stored graph's seed, its run file, and digests of what is stored."""
 from __future__ import annotations
 
 import argparse
@@ -16,9 +16,10 @@ from ._bar import bar
 from ._digest import graph_digest, seed_digest
 from ._files import Trouble, kind_of, read_graph, read_seed
 from ._look import warnings_about
-from ._refusal import LoadError, Refusal
+from ._refusal import TEXT, LoadError, Refusal
 from ._run import Run
 from ._save import written_whole
+from ._text import write_run
 
 ASKED = ("dims", "rounds", "degree", "seed_std")
 
@@ -40,9 +41,35 @@ that the round's filter used and then its D + 8 Ritz values, falling, NaN last.
 Ctrl-C leaves the run in a file, SEED.npy.held or what --save names. The same command with --resume goes on from there to the same bits, and
 removes the file once the seed is written."""
 
+RUN_FILE = """\
+Writes a stored graph, D and the parameters as a run file to standard output: the seven lines that the program `seedrun` reads and makes a
+seed of. Values and seed_std are there with all their bits, so that it is the seed that `threshcinch seed` writes.
+
+GRAPH is what scipy.sparse.save_npz writes. CSR is taken as it stands, entries in their order; another format is converted by SciPy's
+.tocsr(), with a word on standard error. Also on standard error, and never in the text: columns twice in a row, a graph that is not
+symmetric, several components.
+
+A run file has at most 64 rows, 1,024 entries and 400 rounds. More is refused by 17, at the line that would have it, before all else; then
+the graph and the numbers are tested as for a seed, 1 to 10. A refusal's number, place and words go to standard error, and nothing to
+standard output."""
+
+# What a line of a run file holds at most, for people: the library refuses more by that line.
+LINE_SIZES = {2: "rounds, at most 400", 5: "at most 64 rows", 6: "at most 1,024 entries", 7: "at most 1,024 entries"}
+
+
+def _let_go(stream) -> None:
+    """What this standard file does not take goes nowhere: Python would try once more to write it at its end, and complain."""
+    os.dup2(os.open(os.devnull, os.O_WRONLY), stream.fileno())
+
 
 def say(words: str) -> None:
-    print(f"threshcinch: {words}", file=sys.stderr)
+    """A line on standard error. Where that is closed or full, the status alone tells."""
+    if sys.stderr is None:  # print would take standard output for it
+        return
+    try:
+        print(f"threshcinch: {words}", file=sys.stderr)
+    except OSError:
+        _let_go(sys.stderr)
 
 
 def _refused(words: str) -> int:
@@ -70,13 +97,26 @@ def _add_seed(commands) -> None:
     parser.add_argument("graph", metavar="GRAPH", help="the graph, as scipy.sparse.save_npz writes it")
     parser.add_argument("-o", "--output", metavar="SEED.npy", required=True, help="where the seed goes")
     parser.add_argument("--dims", type=int, metavar="D", help="numbers a row of the seed has, 1 to 7 (2)")
-    parser.add_argument("--rounds", type=int, metavar="N", help="rounds of refinement, 1 to 1,000 (5)")
-    parser.add_argument("--degree", type=int, metavar="N", help="the filter's degree, 1 to 1,000 (20)")
-    parser.add_argument("--seed-std", type=float, metavar="X", help="standard deviation of each of the seed's columns (1e-4)")
+    _add_params(parser, "1,000")
     parser.add_argument("--threads", type=_threads, default=1, metavar="N", help="threads that do the work (1); the bits are the same")
     parser.add_argument("--record", metavar="FILE.npy", help="where each round's bound and Ritz values go (nowhere)")
     parser.add_argument("--save", metavar="FILE", help="where Ctrl-C leaves the run (SEED.npy.held)")
     parser.add_argument("--resume", action="store_true", help="go on from that file")
+
+
+def _add_params(parser, most_rounds: str) -> None:
+    parser.add_argument("--rounds", type=int, metavar="N", help=f"rounds of refinement, 1 to {most_rounds} (5)")
+    parser.add_argument("--degree", type=int, metavar="N", help="the filter's degree, 1 to 1,000 (20)")
+    parser.add_argument("--seed-std", type=float, metavar="X", help="standard deviation of each of the seed's columns (1e-4)")
+
+
+def _add_run_file(commands) -> None:
+    form = argparse.RawDescriptionHelpFormatter
+    parser = commands.add_parser("run-file", help="a stored graph as a run file", description=RUN_FILE, epilog=STATUS, formatter_class=form)
+    parser.set_defaults(work=run_file)
+    parser.add_argument("graph", metavar="GRAPH", help="the graph, as scipy.sparse.save_npz writes it")
+    parser.add_argument("--dims", type=int, metavar="D", required=True, help="numbers a row of the seed has, 1 to 7")
+    _add_params(parser, "400")
 
 
 def _add_digest(commands) -> None:
@@ -96,8 +136,40 @@ def _parser() -> argparse.ArgumentParser:
     parser.add_argument("--version", action="version", version=f"threshcinch {__version__}")
     commands = parser.add_subparsers(metavar="COMMAND", required=True)
     _add_seed(commands)
+    _add_run_file(commands)
     _add_digest(commands)
     return parser
+
+
+# ---- what goes in and out
+
+
+def _given(asked) -> dict:
+    """Of D and the parameters those that were named; the others have the library's defaults."""
+    return {name: getattr(asked, name) for name in ASKED if getattr(asked, name) is not None}
+
+
+def _graph_of(path: str):
+    graph, word = read_graph(path)
+    if word:
+        say(word)
+    return graph
+
+
+def _warn(graph) -> None:
+    for line in warnings_about(graph):
+        say(f"warning: {line}")
+
+
+@contextlib.contextmanager
+def _output():
+    """For what is written to standard output. Where that does not take it, it is said in a line."""
+    try:
+        yield
+    except OSError as fault:
+        _let_go(sys.stdout)
+        why = "its reader has gone" if isinstance(fault, BrokenPipeError) else fault.strerror
+        raise Trouble(f"standard output: {why}") from fault
 
 
 # ---- seed
@@ -127,7 +199,7 @@ def _write_array(path: str, array: np.ndarray) -> None:
 
 def _begin(graph, asked, save: str) -> Run:
     """The run at its opening, or where it was left."""
-    given = {name: getattr(asked, name) for name in ASKED if getattr(asked, name) is not None}
+    given = _given(asked)
     if not asked.resume:
         if os.path.exists(save):
             say(f"{save} holds a run that was stopped; --resume would go on from it")
@@ -187,12 +259,9 @@ def _print_run(run: Run) -> None:
 def seed(asked) -> int:
     save = asked.save or asked.output + ".held"
     _check_places(asked.output, save, *([asked.record] if asked.record else []))
-    graph, word = read_graph(asked.graph)
-    if word:
-        say(word)
+    graph = _graph_of(asked.graph)
     run = _begin(graph, asked, save)
-    for line in warnings_about(graph):
-        say(f"warning: {line}")
+    _warn(graph)
     stopped = _drive(run, asked.threads, save)
     if stopped is not None:
         return 128 + stopped
@@ -203,9 +272,32 @@ def seed(asked) -> int:
         os.unlink(save)
     if run.counts.zeroed:
         say(f"warning: columns were zeroed {run.counts.zeroed} times: the block found less directions than it has columns")
-    _print_run(run)
-    print("graph", run.graph_digest, asked.graph)
-    print("seed", seed_digest(run.seed), asked.output)
+    with _output():
+        _print_run(run)
+        print("graph", run.graph_digest, asked.graph)
+        print("seed", seed_digest(run.seed), asked.output)
+    return 0
+
+
+# ---- run-file
+
+
+def _run_text(graph, asked) -> bytes:
+    try:
+        return write_run(graph, **_given(asked))
+    except Refusal as refusal:
+        if refusal.number != TEXT:
+            raise
+        raise Trouble(f"refusal {TEXT} at line {refusal.place} ({LINE_SIZES[refusal.place]}): {refusal.words}") from refusal
+
+
+def run_file(asked) -> int:
+    graph = _graph_of(asked.graph)
+    left = memoryview(_run_text(graph, asked))
+    _warn(graph)
+    with _output():
+        while left:  # an unbuffered file may take less than it is given
+            left = left[sys.stdout.buffer.write(left) :]
     return 0
 
 
@@ -216,10 +308,7 @@ def _digest_of(path: str) -> str:
     kind = kind_of(path)
     if kind == "seed":
         return f"seed {seed_digest(read_seed(path))} {path}"
-    graph, word = read_graph(path)
-    if word:
-        say(word)
-    return f"graph {graph_digest(graph)} {path}"
+    return f"graph {graph_digest(_graph_of(path))} {path}"
 
 
 def digest(asked) -> int:
@@ -232,7 +321,8 @@ def digest(asked) -> int:
         except (Refusal, TypeError, ValueError) as fault:
             status = _refused(f"{path}: {fault}")
         else:
-            print(line)
+            with _output():
+                print(line)
     return status
 
 
@@ -242,13 +332,12 @@ def digest(asked) -> int:
 def _work(asked) -> int:
     """The command's work and status; whatever keeps it from its end is said in a line."""
     try:
+        if sys.stdout is None:
+            raise Trouble("standard output is closed")
         status = asked.work(asked)
-        sys.stdout.flush()
+        with _output():
+            sys.stdout.flush()
         return status
-    except BrokenPipeError:
-        # Whoever read standard output has gone. Python would try once more to write at its end, and complain.
-        os.dup2(os.open(os.devnull, os.O_WRONLY), sys.stdout.fileno())
-        return _refused("standard output: its reader has gone")
     except MemoryError:
         return _refused("this machine has not the memory")
     except (Refusal, Trouble, OSError, TypeError, ValueError) as fault:

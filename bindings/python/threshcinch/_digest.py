@@ -54,15 +54,21 @@ def graph_digest(graph) -> str:
     return lists_digest(graph_lists)
 
 
+def seed_array(seed) -> np.ndarray:
+    """The array that a seed is, or a TypeError."""
+    seed = np.asarray(seed)
+    if seed.ndim != 2 or seed.dtype.newbyteorder("=") != np.float64:
+        raise TypeError(f"a seed is an n x D array of float64, not {seed.dtype} of shape {seed.shape}")
+    return seed
+
+
 def seed_digest(seed: np.ndarray) -> str:
     """The SHA-256 of a seed (n x D, float64), in hexadecimal digits.
 
     Of: 'threshcinch seed 1' and a line feed; D and n, 8 bytes each; the numbers' bits row by row, 8 bytes each, every NaN as
     7ff8000000000000, minus zero kept. Little-endian.
     """
-    seed = np.asarray(seed)
-    if seed.ndim != 2 or seed.dtype.newbyteorder("=") != np.float64:
-        raise TypeError(f"a seed is an n x D array of float64, not {seed.dtype} of shape {seed.shape}")
+    seed = seed_array(seed)
     bits = np.array(seed, "<f8", order="C").view("<u8")
     bits[np.isnan(seed)] = NAN
     return _sha256(SEED_TAG, _whole(seed.shape[1], seed.shape[0]), bits.ravel())

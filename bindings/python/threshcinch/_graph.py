@@ -20,7 +20,7 @@ def params_of(rounds, degree, seed_std) -> Params:
     """The library's defaults, with what was given in their place. The call itself tests them, in document 01's order."""
     params = call("threshcinch_params_new")
     if rounds is not None:
-        params.rounds = natural(rounds)
+        params.rounds = natural(max(operator.index(rounds), 0))  # as too few: too many are refused by another number where a run file is written
     if degree is not None:
         params.degree = natural(degree)
     if seed_std is not None:

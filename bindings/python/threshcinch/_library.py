@@ -6,7 +6,7 @@ import ctypes
 import os
 import pathlib
 import platform
-from ctypes import c_double, c_size_t, c_uint64
+from ctypes import c_double, c_size_t, c_uint32, c_uint64
 
 import numpy as np
 
@@ -54,8 +54,23 @@ class Embedded(ctypes.Structure):
     _fields_ = [("verdict", Verdict), ("counts", Counts)]
 
 
+class Written(ctypes.Structure):
+    _fields_ = [("verdict", Verdict), ("length", c_size_t)]
+
+
+class RunFile(ctypes.Structure):
+    _fields_ = [
+        ("verdict", Verdict),
+        ("d", c_uint64),
+        ("params", Params),
+        *((name, c_size_t) for name in ("start_count", "column_count", "value_count")),
+        *(("starts", c_uint64 * 65), ("columns", c_uint32 * 1024), ("values", c_double * 1024)),
+    ]
+
+
 # Records cross by value, so a size that is not the header's would pass numbers at wrong places.
 SIZES = {Verdict: 16, Params: 24, Sizes: 104, Asked: 48, Progress: 88, Counts: 32, State: 5688, Answer: 5704, Embedded: 48}
+SIZES.update({Written: 24, RunFile: 12880})
 for _record, _size in SIZES.items():
     assert ctypes.sizeof(_record) == _size, f"{_record.__name__} has {ctypes.sizeof(_record)} bytes, not the header's {_size}"
 
@@ -67,8 +82,10 @@ MARKS = 8
 OUTPUT = 9
 RECORD = 10
 
-# three lists of the graph and the lent ones; each crosses as address and length
-_LISTS = [ctypes.c_void_p, c_size_t] * (3 + len(MEMORY_KINDS))
+# a list crosses as address and length; three lists of the graph, and these with the lent ones
+_LIST = [ctypes.c_void_p, c_size_t]
+_GRAPH = _LIST * 3
+_LISTS = _GRAPH + _LIST * len(MEMORY_KINDS)
 _FUNCTIONS = {
     "threshcinch_params_new": (Params, []),
     "threshcinch_lent_sizes": (Sizes, [c_uint64, c_uint64, c_size_t, c_size_t]),
@@ -78,6 +95,9 @@ _FUNCTIONS = {
     "threshcinch_open": (Answer, [c_uint64, Params] + _LISTS),
     "threshcinch_chunk": (Answer, [State, c_size_t] + _LISTS),
     "threshcinch_close": (Answer, [State] + _LISTS),
+    "threshcinch_write_run": (Written, [c_uint64, Params] + _GRAPH + _LIST),
+    "threshcinch_read_run": (RunFile, _LIST),
+    "threshcinch_write_answer": (Written, [Verdict, c_uint64, c_size_t, Counts] + _LIST * 2),
 }
 _NAME = "libthreshcinch.so"
 # How the version of a library begins that has these records and functions in this form. Its soname ends so too.

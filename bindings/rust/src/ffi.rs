@@ -123,6 +123,25 @@ pub(crate) struct Embedded {
     pub counts: Counts,
 }
 
+#[repr(C)]
+pub(crate) struct Written {
+    pub verdict: Verdict,
+    pub length: usize,
+}
+
+#[repr(C)]
+pub(crate) struct RunRead {
+    pub verdict: Verdict,
+    pub d: u64,
+    pub params: RawParams,
+    pub start_count: usize,
+    pub column_count: usize,
+    pub value_count: usize,
+    pub starts: [u64; 65],
+    pub columns: [u32; 1024],
+    pub values: [f64; 1024],
+}
+
 // The header's own assertions, so that a record that drifts from it does not compile.
 const _: () = {
     assert!(size_of::<usize>() == 8 && size_of::<f64>() == 8);
@@ -138,6 +157,11 @@ const _: () = {
     assert!(offset_of!(State, matrix) == 1968 && offset_of!(State, vectors) == 3768 && offset_of!(State, order) == 5568);
     assert!(size_of::<Answer>() == 5704 && offset_of!(Answer, state) == 16);
     assert!(size_of::<Embedded>() == 48 && offset_of!(Embedded, counts) == 16);
+    assert!(size_of::<Written>() == 24 && offset_of!(Written, length) == 16);
+    assert!(size_of::<RunRead>() == 12880);
+    assert!(offset_of!(RunRead, d) == 16 && offset_of!(RunRead, params) == 24);
+    assert!(offset_of!(RunRead, start_count) == 48 && offset_of!(RunRead, starts) == 72);
+    assert!(offset_of!(RunRead, columns) == 592 && offset_of!(RunRead, values) == 4688);
 };
 
 extern "C" {
@@ -149,6 +173,29 @@ extern "C" {
     pub(crate) fn threshcinch_lent_sizes(d: u64, rounds: u64, rows: usize, entries: usize) -> Sizes;
     pub(crate) fn threshcinch_calls_accepted(state: State) -> usize;
     pub(crate) fn threshcinch_calls_owed(state: State) -> usize;
+    pub(crate) fn threshcinch_write_run(
+        d: u64,
+        params: RawParams,
+        starts: *const u64,
+        starts_length: usize,
+        columns: *const u32,
+        columns_length: usize,
+        values: *const f64,
+        values_length: usize,
+        text: *mut u8,
+        text_length: usize,
+    ) -> Written;
+    pub(crate) fn threshcinch_read_run(text: *const u8, text_length: usize) -> RunRead;
+    pub(crate) fn threshcinch_write_answer(
+        verdict: Verdict,
+        d: u64,
+        rows: usize,
+        counts: Counts,
+        seed: *const f64,
+        seed_length: usize,
+        text: *mut u8,
+        text_length: usize,
+    ) -> Written;
 }
 
 /// Declares calls that take, after their own arguments, the graph's three lists and the eleven lent ones, each as address and length.

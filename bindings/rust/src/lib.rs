@@ -17,6 +17,9 @@
 //! # Ok::<(), threshcinch::Refusal>(())
 //! ```
 //!
+//! Run files, which the text program `seedrun` reads, are written and read as bytes ([`write_run`], [`read_run`]), and so is what it prints
+//! ([`write_answer`]).
+//!
 //! Nothing here panics, whatever it is given. Input that cannot be taken is a [`Refusal`]: a number and a place, the number also as a
 //! [`Reason`] to match on.
 //!
@@ -41,6 +44,7 @@ mod run;
 mod save;
 #[cfg(test)]
 mod tests;
+mod texts;
 mod version;
 
 pub use drive::Driven;
@@ -51,6 +55,7 @@ pub use record::RitzRecord;
 pub use refusal::{Reason, Refusal};
 pub use run::{Progress, Run};
 pub use save::LoadError;
+pub use texts::{read_run, write_answer, write_answer_in, write_run, write_run_in, RunFile, ANSWER_BYTES, RUN_FILE_BYTES};
 pub use version::{library_version, VERSION};
 
 use std::ops::ControlFlow;

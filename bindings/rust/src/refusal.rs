@@ -4,7 +4,7 @@ use crate::ffi::Verdict;
 
 /// Why a call was refused: document 01's numbers as names, to match on. [`Refusal::reason`] answers it.
 ///
-/// Later versions may have more of them, so that a `match` needs an arm for the rest. 17, a fault of text, is the text program's alone.
+/// Later versions may have more of them, so that a `match` needs an arm for the rest.
 ///
 /// ```
 /// use threshcinch::{spectral_embedding, Graph, Params, Reason};
@@ -55,10 +55,14 @@ pub enum Reason {
     NoRun = 15,
     /// The state, or a list or mark for it, is damaged. No run from its opening meets it; a forged save may.
     Damaged = 16,
+    /// The bytes are no run file, or the numbers more than one holds, or an answer's rows over 64. Place: the line, from 1, or 0.
+    Text = 17,
+    /// The text has too little room for what is to be written.
+    Room = 18,
 }
 
 impl Reason {
-    const ALL: [Reason; 16] = [
+    const ALL: [Reason; 18] = [
         Reason::Dims,
         Reason::NoRows,
         Reason::Limits,
@@ -75,6 +79,8 @@ impl Reason {
         Reason::ChunksLeft,
         Reason::NoRun,
         Reason::Damaged,
+        Reason::Text,
+        Reason::Room,
     ];
 
     /// Document 01's number.
@@ -106,6 +112,8 @@ impl Reason {
             Reason::ChunksLeft => "a chunk of this stage is not done yet",
             Reason::NoRun => "no run is open",
             Reason::Damaged => "the state, or a list for it, is damaged",
+            Reason::Text => "the text is not a run file, or more than one holds",
+            Reason::Room => "the text has too little room",
         }
     }
 
@@ -116,6 +124,7 @@ impl Reason {
             Reason::Column | Reason::Value => Some("entry"),
             Reason::Memory => Some("list"),
             Reason::NoChunk | Reason::ChunkDone | Reason::ChunksLeft => Some("chunk"),
+            Reason::Text => Some("line"),
             _ => None,
         }
     }
@@ -129,9 +138,9 @@ impl Reason {
 /// A refusal: document 01's number, and the place that it speaks of. A refused call has changed nothing.
 #[derive(Clone, Copy, Debug, PartialEq, Eq)]
 pub struct Refusal {
-    /// 1 to 16, as [`Reason`] names them.
+    /// 1 to 18, as [`Reason`] names them.
     pub number: u64,
-    /// An index, an entry, a list or a chunk, as the number has it; 0 where there is none.
+    /// An index, an entry, a list, a chunk or a line, as the number has it; 0 where there is none.
     pub place: u64,
 }
 

@@ -10,7 +10,9 @@ use std::ops::ControlFlow;
 use std::ptr::from_mut;
 
 use common::{assert_same_memory, bits, quick};
-use threshcinch::{spectral_embedding, spectral_embedding_in, Driven, Graph, Memory, Params, Progress, Run};
+use threshcinch::{
+    read_run, spectral_embedding, spectral_embedding_in, write_answer, write_run, Driven, Graph, Memory, Params, Progress, Run,
+};
 
 /// Values of the control register MXCSR, and whether the bare call has other bits there; nothing where it would trap.
 const ENVIRONMENTS: [(&str, u32, Option<bool>); 13] = [
@@ -245,6 +247,22 @@ fn the_least_number_may_be_set() {
     in_each_environment(
         || Params::new().seed_std(f64::from_bits(1)),
         |set, name| assert_eq!(set.map(|params| params.get_seed_std().to_bits()), Ok(1), "{name}"),
+    );
+}
+
+/// Writers compare numbers: subnormal ones, and a NaN that signals.
+#[test]
+fn texts_have_the_defaults_bytes() {
+    let lists = Subnormal::new(30);
+    let params = Params::new().seed_std(f64::from_bits(1)).unwrap();
+    let file = write_run(&lists.graph(), 1, params).unwrap();
+    let mut seed = spectral_embedding(&lists.graph(), 1, quick()).unwrap();
+    seed.values[0] = f64::from_bits(1);
+    seed.values[1] = f64::from_bits(0x7ff0_0000_0000_0001);
+    let answer = write_answer(Ok(&seed)).unwrap();
+    in_each_environment(
+        || (read_run(&file).and_then(|read| write_run(&read.graph(), read.dims, read.params()?)), write_answer(Ok(&seed))),
+        |found, name| assert_eq!(found, (Ok(file.clone()), Ok(answer.clone())), "{name}"),
     );
 }
 

@@ -1,14 +1,22 @@
-// Replays stored run files through `text::answer` and compares what it answers with the stored answer, byte for byte.
+// Replays stored run files through `text::answer` and compares what it answers with the stored answer, byte for byte. Every run file that
+// is accepted and every answer is written again by its writer, and must be its own bytes; then both writers are tried with what they must refuse.
 //
 // Standard input, for each case: a line `K RRRRR AAAAA` (the kind, and the lengths of the run file and of the answer, five digits each), the run
-// file, the answer. Kinds: `p`, promised to be equal; `b`, beyond what is promised, counted only.
+// file, the answer. Kinds: `p`, promised to be equal; `b`, beyond what is promised, counted only; `w`, not run: both are written again only.
 // It ends where the input ends, or at a head that asks for more than there is.
 ghost use mathlib.Core.Path.{_≡_};
 ghost use Prim.Native.Nat.{_+_, _≤_};
 ghost use lib.ListN.{length};
 use digits::Written;
 use libc::STDIN_FILENO;
-use libc::STDOUT_FILENO;
+use tally::Tally;
+
+mod again; // again.rt: run files and answers written again
+mod fronts; // fronts.rt: the first numbers of a list
+mod lent; // lent.rt: the text that a writer is lent, and what it must leave
+mod refusals; // refusals.rt: what the writers must refuse
+mod stored; // stored.rt: what a stored answer says
+mod tally; // tally.rt: how many were tried, and how many were right
 
 const CASES_MOST: u64 = 4096;
 
@@ -27,18 +35,19 @@ fn digit(b: u8) -> usize
     (b - b'0') as usize
 }
 
-fn five_digits(a: u8, b: u8, c: u8, d: u8, e: u8) -> usize
+// The number of the five digits at a place.
+fn five_digits(text: &[u8], at: usize) -> usize
+    requires { ⌜ at + 5 ≤ length (now text) ⌝ }
     ensures { λ r. ⌜ r ≤ 99999 ⌝ }
 {
-    digit(a) * 10000 + digit(b) * 1000 + digit(c) * 100 + digit(d) * 10 + digit(e)
+    digit(text[at]) * 10000
+        + digit(text[at + 1]) * 1000
+        + digit(text[at + 2]) * 100
+        + digit(text[at + 3]) * 10
+        + digit(text[at + 4])
 }
 
 // ---- comparing
-
-// The byte at a place, or 0 behind the end.
-fn byte_at(text: &[u8], i: usize) -> u8 {
-    if i < text.len() { text[i] } else { 0 }
-}
 
 fn is_same(x: &[u8], y: &[u8]) -> bool {
     if x.len() != y.len() {
@@ -46,7 +55,7 @@ fn is_same(x: &[u8], y: &[u8]) -> bool {
     }
     let mut i = 0;
     while i < x.len() {
-        if byte_at(x, i) != byte_at(y, i) {
+        if lent::byte_at(x, i) != lent::byte_at(y, i) {
             return false;
         }
         i += 1;
@@ -72,14 +81,32 @@ fn is_answered(run: &[u8], stored: &[u8]) -> bool {
 
 // ---- the cases
 
-// What one case came to, and the place behind it.
+// The place behind a case.
 enum Case {
-    Done { kind: u8, same: bool, next: usize },
+    Done(usize),
     NoMore,
 }
 
+// The run file is run where its kind says so.
+fn try_answer(kind: u8, run: &[u8], answer: &[u8], t: &mut Tally) {
+    if kind == b'p' {
+        tally::note(t, tally::PROMISED, is_answered(run, answer));
+    }
+    if kind == b'b' {
+        tally::note(t, tally::BEYOND, is_answered(run, answer));
+    }
+}
+
+fn try_case(kind: u8, run: &[u8], answer: &[u8], t: &mut Tally) {
+    try_answer(kind, run, answer, t);
+    let said = stored::read(answer);
+    let verdict = said.verdict;
+    again::file_again(run, verdict, t);
+    again::answer_again(said, answer, t);
+}
+
 // The case whose head begins at a place.
-fn case_at(all: &[u8], at: usize) -> Case {
+fn case_at(all: &[u8], at: usize, t: &mut Tally) -> Case {
     if all.len() <= at {
         return Case::NoMore;
     }
@@ -87,87 +114,28 @@ fn case_at(all: &[u8], at: usize) -> Case {
     if left < 14 {
         return Case::NoMore;
     }
-    let run_length = five_digits(
-        all[at + 2],
-        all[at + 3],
-        all[at + 4],
-        all[at + 5],
-        all[at + 6],
-    );
-    let answer_length = five_digits(
-        all[at + 8],
-        all[at + 9],
-        all[at + 10],
-        all[at + 11],
-        all[at + 12],
-    );
+    let run_length = five_digits(all, at + 2);
+    let answer_length = five_digits(all, at + 8);
     if left - 14 < run_length + answer_length {
         return Case::NoMore;
     }
-    let kind = all[at];
     let from = at + 14;
     let middle = from + run_length;
     let next = middle + answer_length;
-    let same = is_answered(&all[from..middle], &all[middle..next]);
-    Case::Done { kind, same, next }
+    try_case(all[at], &all[from..middle], &all[middle..next], t);
+    Case::Done(next)
 }
 
-struct Tally {
-    promised: u64,
-    same: u64,
-    beyond: u64,
-    beyond_same: u64,
-}
-
-// One more where it is so.
-fn more(count: u64, is_so: bool) -> u64
-    requires { ⌜ count ≤ 4096 ⌝ }
-    ensures { λ r. ⌜ r ≤ count + 1 ⌝ }
-{
-    if is_so { count + 1 } else { count }
-}
-
-fn counted(t: Tally, kind: u8, same: bool) -> Tally
-    requires { ⌜ (t .promised ≤ 4096) × (t .same ≤ 4096) × (t .beyond ≤ 4096) × (t .«beyond_same» ≤ 4096) ⌝ }
-    ensures { λ r. ⌜ (r .promised ≤ t .promised + 1) × (r .same ≤ t .same + 1) × (r .beyond ≤ t .beyond + 1) × (r .«beyond_same» ≤ t .«beyond_same» + 1) ⌝ }
-{
-    let is_beyond = kind == b'b';
-    Tally {
-        promised: more(t.promised, !is_beyond),
-        same: more(t.same, !is_beyond && same),
-        beyond: more(t.beyond, is_beyond),
-        beyond_same: more(t.beyond_same, is_beyond && same),
-    }
-}
-
-fn count_cases(all: &[u8]) -> Tally {
-    let mut t = Tally {
-        promised: 0,
-        same: 0,
-        beyond: 0,
-        beyond_same: 0,
-    };
+fn try_cases(all: &[u8], t: &mut Tally) {
     let mut at = 0;
     let mut turns: u64 = 0;
     while turns < CASES_MOST {
-        let case = case_at(all, at);
-        match case {
-            Case::Done { kind, same, next } => {
-                t = counted(t, kind, same);
-                at = next;
-            }
-            Case::NoMore => {
-                return t;
-            }
-        }
+        let Case::Done(next) = case_at(all, at, t) else {
+            return;
+        };
+        at = next;
         turns += 1;
     }
-    t
-}
-
-fn print_count(name: &[u8], count: u64) {
-    io::write_all(STDOUT_FILENO, name);
-    io::print_decimal(STDOUT_FILENO, count);
 }
 
 // Room for all of the input. The `ensures` gives only the length, so that no proof counts so many zeros.
@@ -180,10 +148,9 @@ fn room() -> [u8; 2100000]
 fn main() {
     let mut all = room();
     let count = io::read_full(STDIN_FILENO, &mut all);
-    let t = count_cases(&all[..count]);
-    print_count(b"promised=", t.promised);
-    print_count(b" same=", t.same);
-    print_count(b" beyond=", t.beyond);
-    print_count(b" same=", t.beyond_same);
-    io::write_all(STDOUT_FILENO, b"\n");
+    let mut t = [0u64; 16];
+    try_cases(&all[..count], &mut t);
+    refusals::of_files(&mut t);
+    refusals::of_answers(&mut t);
+    tally::print_all(&t);
 }

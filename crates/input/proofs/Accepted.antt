@@ -16,7 +16,7 @@ use Rattle.input.specs.Valid.{ValidParams, ValidGraph, ValidRequest}
 use Rattle.definition.proofs.First.{first-all}
 
 -- ---- a test that passes, and two tests that pass
-no-fault : (fault : Bool) (r p : ℕ) → given fault (suc r) p .number ≡ 0 → fault ≡ false
+pub no-fault : (fault : Bool) (r p : ℕ) → given fault (suc r) p .number ≡ 0 → fault ≡ false
 no-fault true r p h = absurd (omega arith)
 no-fault false r p h = refl
 
@@ -24,7 +24,7 @@ none-first : (f : ℕ → Bool) (a m r : ℕ) → givenFirst f a m (suc r) .numb
 none-first f a m r h i p q =
     let x = firstFrom f a m in first-all f a m i (ltb-false x (a + m) (no-fault (ltb x (a + m)) r x h)) p q
 
-both-pass : (t w : Verdict) → orElse t w .number ≡ 0 → (t .number ≡ 0) × (w .number ≡ 0)
+pub both-pass : (t w : Verdict) → orElse t w .number ≡ 0 → (t .number ≡ 0) × (w .number ≡ 0)
 unfolding orElse
 both-pass t w h = go (eqb (t .number) 0) refl h
   where

@@ -59,7 +59,7 @@ fn start_at(starts: &[u64], i: usize) -> u64
 
 // ---- the tests
 
-fn test_dims(d: u64) -> Verdict
+pub fn test_dims(d: u64) -> Verdict
     ensures { λ r. ⌜ verdictOf r ≡ refusals.testDims d ⌝ }
 {
     given(!within(d, SpectralParams::DIMS_MOST), 1, 0)
@@ -171,7 +171,7 @@ pub fn test_lent(d: usize, rounds: usize, n: usize, m: usize, lent: [usize; 11])
     given(j < 11, 11, j)
 }
 
-fn test_params(params: SpectralParams) -> Verdict
+pub fn test_params(params: SpectralParams) -> Verdict
     ensures { λ r. ⌜ verdictOf r ≡ refusals.testParams (paramsOf params) ⌝ }
 {
     let rounds = test_rounds(params.rounds);
@@ -185,7 +185,7 @@ fn test_params(params: SpectralParams) -> Verdict
     test_seed_std(params.seed_std)
 }
 
-fn test_graph(starts: &[u64], columns: &[u32], values: &[f64]) -> Verdict
+pub fn test_graph(starts: &[u64], columns: &[u32], values: &[f64]) -> Verdict
     ensures { λ r. ⌜ verdictOf r ≡ refusals.testGraph ieee64 (now (starts .entry)) (now (columns .entry)) (now (values .entry)) ⌝ }
 {
     let rows = test_rows(starts);

@@ -1,4 +1,6 @@
 -- Laws for the proofs of this crate's functions: one text behind another, and how long the texts are.
-mod Putting
+pub mod Putting
+pub mod Leaving
+pub mod Answers
 mod Texts
 mod Cases

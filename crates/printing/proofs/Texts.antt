@@ -59,6 +59,19 @@ head-pairs n t =
     ∙ ap (λ (r : List ℕ). labelled answerName 0 ++ (labelled nName n ++ r))
     (append-assoc (labelled passesName (t .passes)) (labelled refreshedName (t .refreshed)) _)
 
+pub head-most : (n : ℕ) (t : Counts) → length (headText n t) ≤ 168
+head-most n t =
+    let rest = pair passesName (t .passes) refreshedName (t .refreshed) ++ pair zeroedName (t .zeroed) isolatedName (t .isolated) in
+    omega (
+      arith,
+      ap length (head-pairs n t),
+      length-append (pair answerName 0 nName n) rest,
+      length-append (pair passesName (t .passes) refreshedName (t .refreshed)) (pair zeroedName (t .zeroed) isolatedName (t .isolated)),
+      pair-most answerName 0 nName n,
+      pair-most passesName (t .passes) refreshedName (t .refreshed),
+      pair-most zeroedName (t .zeroed) isolatedName (t .isolated),
+    )
+
 -- ---- a row's numbers
 pub number-first : (x : Float) → bitsText x ≡ numberText 0 x
 unfolding numberText

@@ -1,2 +1,4 @@
 -- What the contracts cite.
 pub mod Printed
+pub mod Room
+pub mod Answer

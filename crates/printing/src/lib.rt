@@ -1,6 +1,7 @@
 // What the text program prints: a refusal, or the counts and the seed.
 //
-// Each function writes from a place on, where it is told that there is room, and answers the place behind what it wrote.
+// A function here writes from a place on, where it is told that there is room, and answers the place behind what it wrote. Those of
+// `room` and `write_answer` ask for nothing: they answer a verdict and a length.
 ghost use mathlib.Core.Path.{_≡_};
 ghost use mathlib.Core.List.{_++_};
 ghost use Prim.Native.Nat.{_*_, _+_, _≤_};
@@ -9,10 +10,26 @@ ghost use lib.ListN.{length, getD};
 ghost use Rattle.digits.specs.Placed.{put};
 ghost use Rattle.state.specs.Said.{countsIn};
 ghost use Rattle.printing.specs.Printed.{labelled, refusalText, headText, bitsText, numberText, numbersText, rowText, rowsText, seedText, room};
+use input::Verdict;
 use state::Counts;
 
+mod answer; // the whole answer, by its verdict
+mod room; // into text that a host lends
+
+pub use answer::write_answer;
+pub use room::deliver;
+pub use room::refused;
+pub use room::verdict;
+
+// What a writer of a whole text answers: how many bytes it wrote from the first one on, 0 with a refusal.
+#[repr(C)]
+pub struct WrittenText {
+    pub verdict: Verdict,
+    pub length: usize,
+}
+
 // The bits of a number, a NaN always with the same ones.
-fn bits_of(x: f64) -> u64
+pub fn bits_of(x: f64) -> u64
     ensures { λ r. ⌜ r ≡ toBits binary64 x ⌝ }
 {
     if x != x {
@@ -22,7 +39,7 @@ fn bits_of(x: f64) -> u64
 }
 
 // The bytes of a text.
-fn put_text(text: &[u8], out: &mut [u8], at: usize) -> usize
+pub fn put_text(text: &[u8], out: &mut [u8], at: usize) -> usize
     requires { ⌜ at + length (now text) ≤ length (now out) ⌝ }
     ensures { λ r. ⌜ (r ≡ at + length (now (text .entry))) × (now (out .exit) ≡ put (now (text .entry)) at (now (out .entry))) ⌝ }
 {
@@ -144,7 +161,7 @@ fn put_head(n: usize, counts: Counts, out: &mut [u8]) -> usize
 }
 
 // The refusal from the first byte on; the place behind it.
-pub fn print_refusal(number: u64, place: u64, out: &mut [u8]) -> usize
+fn print_refusal(number: u64, place: u64, out: &mut [u8]) -> usize
     requires { ⌜ room ≤ length (now out) ⌝ }
     ensures { λ r. ⌜ (r ≡ length (refusalText number place)) × (r ≤ room)
         × (now (out .exit) ≡ put (refusalText number place) 0 (now (out .entry))) ⌝ }
@@ -153,7 +170,7 @@ pub fn print_refusal(number: u64, place: u64, out: &mut [u8]) -> usize
 }
 
 // The seed of n rows with its counts, from the first byte on; the place behind it. Row i has its d numbers from i x d on.
-pub fn print_seed(n: usize, d: usize, counts: Counts, seed: &[f64], out: &mut [u8]) -> usize
+fn print_seed(n: usize, d: usize, counts: Counts, seed: &[f64], out: &mut [u8]) -> usize
     requires { ⌜ (n ≤ 64) × (d ≤ 7) × (n * d ≤ length (now seed)) ⌝ }
     requires { ⌜ room ≤ length (now out) ⌝ }
     ensures { λ r. ⌜ (r ≡ length (seedText n d (countsIn counts) (λ i c. getD (now (seed .entry)) (i * d + c) nan))) × (r ≤ room)

@@ -15,8 +15,12 @@ mod exports; // the function that C and Rust call by name
 
 const BYTES_MOST: usize = 32768;
 
-// The Ritz record of so many rounds fits the text program's memory.
-const ROUNDS_MOST: u64 = 400;
+// The text program's sizes. The Ritz record of so many rounds fits its memory.
+pub const ROUNDS_MOST: u64 = 400;
+
+pub const STARTS_MOST: usize = 65;
+
+pub const ENTRIES_MOST: usize = 1024;
 
 // Below 2^64, and below 2^32.
 const LARGEST64: u64 = 0xffff_ffff_ffff_ffff;
@@ -196,7 +200,7 @@ fn read_head(bytes: &[u8]) -> HeadRead
 }
 
 // The float of a pattern. The logic has one NaN, and `from_bits` asks that the pattern is none's.
-fn value_of(bits: u64) -> f64
+pub fn value_of(bits: u64) -> f64
     ensures { λ r. ⌜ r ≡ ofBits binary64 bits ⌝ }
 {
     if 0x7ff0_0000_0000_0000 < bits % 0x8000_0000_0000_0000 {

@@ -7,11 +7,21 @@ use native.Mathlib.Omega.{arith}
 use borrow.Author.Tests.{le-leb, lt-leb}
 use lib.Dec.{leb}
 use lib.Ieee.{Float, binary64, ofBits}
-use lib.ListN.{length, take, drop, replicate, length-replicate, length-append, length-take}
+use lib.ListN.{length, take, replicate, length-replicate, length-append, length-take}
+use lib.Seq.{take-append-seam}
+use Rattle.definition.specs.Refusals.{Verdict, refused}
+use Rattle.definition.specs.SpectralEmbedding.{Counts}
 use Rattle.digits.specs.Placed.{put}
 use Rattle.digits.specs.declared.Written.{Written}
 use Rattle.digits.specs.declared.Written.the-variants.{To, Short}
+use Rattle.files.proofs.Floats.{length-floats, take-floats}
+use Rattle.input.proofs.Verdicts.{test-passes}
 use Rattle.printing.specs.Printed.{refusalText, room}
+use Rattle.printing.specs.Room.{Leaves}
+use Rattle.printing.specs.Answer as printing
+use Rattle.printing.specs.Answer.{testAnswer}
+use Rattle.printing.proofs.Answers.{refusal-tests, refusal-says, answer-left}
+use Rattle.printing.proofs.Leaving.{same-text, put-count}
 use Rattle.reading.specs.Grammar.{RunNumbers, startsMost, entriesMost, roundsMost}
 use Rattle.reading.specs.ReadRun.{Read, run, fault, readRun, recordOf, floatsOf, padded}
 use Rattle.reading.specs.declared.RunFile.{RunFile}
@@ -20,20 +30,6 @@ use Rattle.text.specs.Small.{answerOf}
 use Rattle.text.specs.Answer.{paramsIn, answerHeld, answerFor, answerText, answered, placed, answeredLength}
 
 -- ---- padded lists
-take-padded : (vs zs : List ℕ) → take (length vs) (vs ++ zs) ≡ vs
-take-padded [] zs = refl
-take-padded (v ∷ vs) zs = ap (λ (l : List ℕ). v ∷ l) (take-padded vs zs)
-
-take-floats : (vs zs : List ℕ) → take (length vs) (floatsOf (vs ++ zs)) ≡ floatsOf vs
-unfolding floatsOf
-take-floats [] zs = refl
-take-floats (v ∷ vs) zs = ap (λ (l : List Float). ofBits binary64 v ∷ l) (take-floats vs zs)
-
-length-floats : (vs : List ℕ) → length (floatsOf vs) ≡ length vs
-unfolding floatsOf
-length-floats [] = refl
-length-floats (v ∷ vs) = ap suc (length-floats vs)
-
 padded-length : (most : ℕ) (vs : List ℕ) → length vs ≤ most → length (padded most vs) ≡ most
 padded-length most vs l =
     let zeros : List ℕ = replicate (most - length vs) 0 in
@@ -76,7 +72,7 @@ right-read (run f) z e = record {
   values = length-floats (padded entriesMost (f .values)) ∙ padded-length entriesMost (f .values) (z .2);
   says =
       ap₂ (λ (starts columns : List ℕ). answerOf (f .d) (paramsIn f) starts columns (take (length (f .values)) (floatsOf (padded entriesMost (f .values)))))
-      (take-padded (f .starts) (replicate (startsMost - length (f .starts)) 0)) (take-padded (f .columns) (replicate (entriesMost - length (f .columns)) 0))
+      (take-append-seam (f .starts) (replicate (startsMost - length (f .starts)) 0)) (take-append-seam (f .columns) (replicate (entriesMost - length (f .columns)) 0))
       ∙ ap (λ (values : List Float). answerOf (f .d) (paramsIn f) (f .starts) (f .columns) values) (take-floats (f .values) (replicate (entriesMost - length (f .values)) 0));
 }
 right-read (fault k) z e = absurd (false≢true e)
@@ -94,6 +90,15 @@ module _ (bytes : List ℕ) {file : RunFile} (e : file ≡ recordOf (readRun byt
   pub fault-held : file .«is_right» ≡ false → refusalText 17 (file .line) ≡ answerText bytes
   unfolding answerText
   fault-held t = ap (λ (r : RunFile). refusalText 17 (r .line)) e ∙ fault-read (readRun bytes) (sym (ap (λ (r : RunFile). r .«is_right») e) ∙ t)
+
+-- ---- what the second writer prints of a fault
+pub fault-printed : (line : ℕ) (counts : Counts) (seed : List Float) (out : List ℕ) {v verdict : Verdict} {count : ℕ} {after : List ℕ} → v ≡ refused 17 line
+    → room ≤ length out → Leaves (testAnswer v 0 0 counts seed out) (printing.answerText v 0 0 counts seed) out verdict count after
+    → (count ≡ length (refusalText 17 line)) × (count ≤ room) × (after ≡ put (refusalText 17 line) 0 out)
+fault-printed line counts seed out {v} e long left =
+    let f : v .number ≡ 0 → ⊥ = λ z. absurd (omega (arith, ap (λ (x : Verdict). x .number) e)) in
+    same-text out (sym (refusal-says v 0 0 counts seed f) ∙ ap (λ (x : Verdict). refusalText (x .number) (x .place)) e)
+    (answer-left v 0 0 counts seed out (test-passes (refusal-tests v 0 0 (length seed) f) refl) long left)
 
 -- ---- what `answer` answers and leaves
 module _ (bytes out : List ℕ) where
@@ -134,13 +139,6 @@ module _ (bytes out : List ℕ) where
   length-none e = ap lengthOf e ∙ length-is
 
 -- ---- the part of the bytes that has the answer
-pub put-part : (text out : List ℕ) {after : List ℕ} {n : ℕ} → n ≡ length text → after ≡ put text 0 out → n ≡ length (take n after)
-put-part text out {after} {n} e h =
-    part-length n after
-    (let l : length (put text 0 out) ≡ length text + length (drop (0 + length text) out) = length-append text (drop (0 + length text) out) in
-    let m : length after ≡ length (put text 0 out) = ap length h in
-    omega (arith, e, l, m))
-
 is-to : Written → Bool
 is-to (To n) = true
 is-to Short = false
@@ -150,5 +148,5 @@ unfolding answered placed is-to
 answered-part bytes out {after} {n} e h = go (leb room (length out)) e h
   where
     go : (b : Bool) → To n ≡ cond b (To (length (answerText bytes))) Short → after ≡ cond b (put (answerText bytes) 0 out) out → n ≡ length (take n after)
-    go true p q = put-part (answerText bytes) out (ap (lengthOf bytes out) p) q
+    go true p q = put-count (answerText bytes) out (ap (lengthOf bytes out) p) q
     go false p q = absurd (false≢true (sym (ap is-to p)))

@@ -1,4 +1,4 @@
--- The one call on the text program's own memory: 11 is never met, and the seed and the counts are the definition's. Assumes nothing.
+-- The one call on the text program's own memory: 11 is never met, the seed and the counts are the definition's, and they are printed. Assumes nothing.
 use mathlib.Core.Path.{_≡_, refl, sym, ap, ap₂, _∙_, subst}
 use mathlib.Core.Bool.{Bool, true, false, cond}
 use mathlib.Core.List.{List, [], _∷_, _++_}
@@ -17,13 +17,18 @@ use Rattle.definition.specs.SpectralEmbedding.{Counts}
 use Rattle.definition.proofs.First.{all-first}
 use Rattle.digits.specs.Placed.{put}
 use Rattle.input.specs.Said.{verdictOf}
-use Rattle.input.proofs.Accepted.{dims-valid, request-valid}
+use Rattle.input.proofs.Accepted.{both-pass, dims-valid, graph-valid}
+use Rattle.input.proofs.Verdicts.{test-passes}
 use Rattle.machine.specs.State.{Lists, Lent, lengthsOf}
 use Rattle.promises.specs.OneCall.{Whole, wholeCall, ranWhole, refusedWhole}
 use Rattle.promises.proofs.Ieee.{steady}
 use Rattle.promises.specs.Promises.{stagesOf}
 use Rattle.promises.proofs.Upward.{whole-shows, here-fit}
 use Rattle.printing.specs.Printed.{bitsText, numbersText, rowName, rowsText, headText, seedText, refusalText, room}
+use Rattle.printing.specs.Room.{Leaves}
+use Rattle.printing.specs.Answer.{testPrinted, answerText, testAnswer}
+use Rattle.printing.proofs.Answers.{right-seed, refusal-tests, seed-tests, refusal-says, seed-says, answer-left}
+use Rattle.printing.proofs.Leaving.{same-text}
 use Rattle.spectral.specs.Said.{wholeIn}
 use Rattle.spectral.specs.declared.Embedded.{Embedded}
 use Rattle.state.specs.Said.{listsIn, countsIn}
@@ -142,7 +147,7 @@ module _ (d : ℕ) (params : Params) (starts columns : List ℕ) (values : List 
   abbrev asked : Verdict
   asked = testAsked d params starts columns values
 
-  pub says-refusal : (v .number ≡ 0 → ⊥) → refusalText (v .number) (v .place) ≡ answerOf d params starts columns values
+  says-refusal : (v .number ≡ 0 → ⊥) → refusalText (v .number) (v .place) ≡ answerOf d params starts columns values
   unfolding answerOf
   says-refusal f =
       let same = e .refused f in
@@ -150,17 +155,43 @@ module _ (d : ℕ) (params : Params) (starts columns : List ℕ) (values : List 
       ap (λ (x : Verdict). refusalText (x .number) (x .place)) same
       ∙ sym (ap (λ (b : Bool). cond b (seedText (length starts - 1) d (countsOf d params starts columns values) (seedOf d params starts columns values)) (refusalText (asked .number) (asked .place))) not-passed)
 
-  pub says-seed : v .number ≡ 0 → seedText (length starts - 1) d t (λ i c. getD output (i * d + c) nan) ≡ answerOf d params starts columns values
+  says-seed : v .number ≡ 0 → seedText (length starts - 1) d t (λ i c. getD output (i * d + c) nan) ≡ answerOf d params starts columns values
   unfolding answerOf seedText
   says-seed z =
       let passed : passes asked ≡ true = eq-eqb (asked .number) 0 (e .taken z) in
       ap₂ (λ (x : Counts) (r : List ℕ). headText (length starts - 1) x ++ r) (e .counted z) (rows-alike (λ i c. getD output (i * d + c) nan) (seedOf d params starts columns values) d (length starts - 1) (e .seeded z))
       ∙ sym (ap (λ (b : Bool). cond b (seedText (length starts - 1) d (countsOf d params starts columns values) (seedOf d params starts columns values)) (refusalText (asked .number) (asked .place))) passed)
 
-  -- a request that passes has at most 7 dimensions
-  pub few-dims : v .number ≡ 0 → d ≤ 7
-  unfolding testAsked
-  few-dims z = request-valid ieee64 starts columns values d params (lentSize d (params .rounds) (length starts - 1) (length columns)) (e .taken z) .dims-most
+  -- ---- what the second writer prints of it: its tests pass, and the text is the answer
+  abbrev n : ℕ
+  n = length starts - 1
+
+  printable : length starts ≤ 65 → testPrinted v d n (length output) .number ≡ 0
+  unfolding testAsked testRequest
+  printable few = go (eqb (v .number) 0) refl
+    where
+      go : (b : Bool) → eqb (v .number) 0 ≡ b → testPrinted v d n (length output) .number ≡ 0
+      go true q =
+          let z = eqb-true (v .number) 0 q in
+          let tests = both-pass _ _ (e .taken z) in
+          let rows = graph-valid ieee64 starts columns values (both-pass _ _ (tests .1) .0) .rows-least in
+          test-passes (right-seed d n (length output) refl (tests .0) (λ none. omega arith) (omega arith) (e .long z) ∙ seed-tests v d n (length output) z) refl
+      go false q = test-passes (refusal-tests v d n (length output) (eqb-false (v .number) 0 q)) refl
+
+  says : answerText v d n t output ≡ answerOf d params starts columns values
+  says = go (eqb (v .number) 0) refl
+    where
+      go : (b : Bool) → eqb (v .number) 0 ≡ b → answerText v d n t output ≡ answerOf d params starts columns values
+      go true q = let z = eqb-true (v .number) 0 q in sym (seed-says v d n t output z) ∙ says-seed z
+      go false q = let f = eqb-false (v .number) 0 q in sym (refusal-says v d n t output f) ∙ says-refusal f
+
+  pub answers : {rows : ℕ} (out : List ℕ) {verdict : Verdict} {count : ℕ} {after : List ℕ} → rows ≡ n → length starts ≤ 65 → room ≤ length out
+      → Leaves (testAnswer v d rows t output out) (answerText v d rows t output) out verdict count after
+      → (count ≡ length (answerOf d params starts columns values)) × (count ≤ room) × (after ≡ put (answerOf d params starts columns values) 0 out)
+  answers out {verdict} {count} {after} same few long left =
+      same-text out says
+      (answer-left v d n t output out (printable few) long
+      (subst (λ (r : ℕ). Leaves (testAnswer v d r t output out) (answerText v d r t output) out verdict count after) same left))
 
 -- the same of the code's records, where the lent lists have the lengths of the program's memory
 pub embeds-in : {d : ℕ} {params : Params} {starts columns : List ℕ} {values : List Float} (r : Embedded) (m : Lent ieee64) (marks : List ℕ) {after : Lent ieee64} {marked : List ℕ}
@@ -169,8 +200,3 @@ pub embeds-in : {d : ℕ} {params : Params} {starts columns : List ℕ} {values 
     → Embeds d params starts columns values (verdictOf (r .verdict)) (countsIn (r .counts)) (after .output)
 embeds-in {d} {params} {starts} {columns} {values} r m marks {after} {marked} h few small brief same =
     embeds d params (listsIn starts columns values) few small brief m marks (λ j. subst (λ (l : List ℕ). wholesOf lengths j ≤ wholesOf l j) (sym same) (omega arith)) (wholeIn r after marked) h
-
--- another text that is the same
-pub printed : {text answer after : List ℕ} {r : ℕ} (out : List ℕ) → text ≡ answer → (r ≡ length text) × (r ≤ room) × (after ≡ put text 0 out)
-    → (r ≡ length answer) × (r ≤ room) × (after ≡ put answer 0 out)
-printed {text} {answer} {after} {r} out e h = subst (λ (t : List ℕ). (r ≡ length t) × (r ≤ room) × (after ≡ put t 0 out)) e h

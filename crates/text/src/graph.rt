@@ -69,9 +69,7 @@ pub fn answer_graph(
     let seed: &mut [f64] = &mut output;
     let embedded = embed(d, params, starts, columns, values, seed);
     let verdict = embedded.verdict;
-    if verdict.number != 0 {
-        return printing::print_refusal(verdict.number, verdict.place, out);
-    }
     let counts = embedded.counts;
-    printing::print_seed(input::row_count(starts), d as usize, counts, seed, out)
+    let written = printing::write_answer(verdict, d, input::row_count(starts), counts, seed, out);
+    written.length
 }

@@ -3,11 +3,12 @@ ghost use mathlib.Core.Path.{_≡_};
 ghost use Prim.Native.Nat.{_≤_};
 ghost use lib.ListN.{length, take};
 ghost use Rattle.digits.specs.Placed.{put};
-ghost use Rattle.printing.specs.Printed.{room};
+ghost use Rattle.printing.specs.Printed.{refusalText, room};
 ghost use Rattle.text.specs.Answer.{answerHeld, answered, placed};
 use digits::Written;
 use input::SpectralParams;
 use reading::RunFile;
+use state::Counts;
 
 mod exports; // for C
 mod graph; // the answer for a graph
@@ -45,6 +46,21 @@ fn answer_run(file: RunFile, out: &mut [u8]) -> usize
     )
 }
 
+// The refusal of a text that is no run file, from the first byte on; the place behind it.
+fn answer_fault(line: u64, out: &mut [u8]) -> usize
+    requires { ⌜ room ≤ length (now out) ⌝ }
+    ensures { λ r. ⌜ (r ≡ length (refusalText 17 line)) × (r ≤ room) × (now (out .exit) ≡ put (refusalText 17 line) 0 (now (out .entry))) ⌝ }
+{
+    let counts = Counts {
+        passes: 0,
+        refreshed: 0,
+        zeroed: 0,
+        isolated: 0,
+    };
+    let written = printing::write_answer(printing::verdict(17, line), 0, 0, counts, &[], out);
+    written.length
+}
+
 // The whole output for the whole input. Where `out` has less than ROOM bytes it stays as it is.
 pub fn answer(bytes: &[u8], out: &mut [u8]) -> Written
     ensures { λ r. ⌜ (r ≡ answered (now (bytes .entry)) (now (out .entry))) × (now (out .exit) ≡ placed (now (bytes .entry)) (now (out .entry))) ⌝ }
@@ -57,6 +73,6 @@ pub fn answer(bytes: &[u8], out: &mut [u8]) -> Written
         let end = answer_run(file, out);
         return Written::To(end);
     }
-    let end = printing::print_refusal(17, file.line, out);
+    let end = answer_fault(file.line, out);
     Written::To(end)
 }

@@ -9,45 +9,35 @@ use Rattle.cases.proofs.is_answered.Lts as lts
 use Rattle.cases.proofs.is_same.Reads as is-same-reads
 use Rattle.text.proofs.answer.Reads as answer-reads
 
--- src/main.rt:58:37
 slice-aggregate-answer : tie.Need-slice-aggregate-answer
 slice-aggregate-answer c = search needs
 
--- src/main.rt:58:9
 answer-requires : tie.Need-answer-requires
 answer-requires c κs = search needs
 
--- src/main.rt:60:21
 enum-known-written : tie.Need-enum-known-written
 enum-known-written c = search needs
 
--- src/main.rt:62:25
 array-share-prefix-out : tie.Need-array-share-prefix-out
 array-share-prefix-out c = search needs
 
--- src/main.rt:62:25
 slice-aggregate-is-same : tie.Need-slice-aggregate-is-same
 slice-aggregate-is-same c =
     let e = c .before .before .before .before .before .before in
     answered-part _ _ (sym (c .before .before .before .written .given .1) ∙ e .answer .ensures .0) (e .answer .ensures .1)
 
--- src/main.rt:62:17
 is-same-requires : tie.Need-is-same-requires
 is-same-requires c κs = search needs
 
--- src/main.rt:67:27
 enum-told : tie.Need-enum-told
 enum-told c = search needs
 
--- src/main.rt:56:1
 returns : tie.Need-returns
 returns c = search needs
 
--- src/main.rt:56:1
 returns-2 : tie.Need-returns-2
 returns-2 c = search needs
 
--- src/main.rt:56:1
 returns-3 : tie.Need-returns-3
 returns-3 c = search needs
 

@@ -7,7 +7,7 @@ use Rattle.cases.proofs.is_same.Statement.{statement}
 use Rattle.cases.proofs.is_same.Tie as tie
 use Rattle.cases.proofs.is_same.Reads as reads
 use Rattle.cases.proofs.is_same.Lts as lts
-use Rattle.cases.proofs.byte_at.Reads as byte-at-reads
+use Rattle.cases.proofs.lent.byte_at.Reads as byte-at-reads
 
 abbrev Inv-loop : tie.InvT-loop
 Inv-loop x y i₀ i = i ≤ length x
@@ -15,39 +15,30 @@ Inv-loop x y i₀ i = i ≤ length x
 abbrev μ-loop : tie.MeasureT-loop
 μ-loop x y i₀ i = length x - i
 
--- src/main.rt:43:9
 returns : tie.Need-returns Inv-loop μ-loop
 returns c = search needs
 
--- src/main.rt:46:5
 loop-holds : tie.Need-loop-holds Inv-loop μ-loop
 loop-holds c = omega arith
 
--- src/main.rt:47:12
 byte-at-requires : tie.Need-byte-at-requires Inv-loop μ-loop
 byte-at-requires c κs = search needs
 
--- src/main.rt:47:29
 byte-at-requires-2 : tie.Need-byte-at-requires-2 Inv-loop μ-loop
 byte-at-requires-2 c κs = search needs
 
--- src/main.rt:48:13
 returns-2 : tie.Need-returns-2 Inv-loop μ-loop
 returns-2 c = search needs
 
--- src/main.rt:50:9
 add-i : tie.Need-add-i Inv-loop μ-loop
 add-i c = omega arith
 
--- src/main.rt:46:5
 loop-less : tie.Need-loop-less Inv-loop μ-loop
 loop-less c = omega arith
 
--- src/main.rt:46:5
 loop-again : tie.Need-loop-again Inv-loop μ-loop
 loop-again c = omega arith
 
--- src/main.rt:41:1
 returns-3 : tie.Need-returns-3 Inv-loop μ-loop
 returns-3 c = search needs
 

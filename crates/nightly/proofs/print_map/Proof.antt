@@ -4,8 +4,9 @@ use native.Mathlib.Omega.{arith}
 use lib.ListN.{take}
 use Rattle.definition.specs.Numbers.{Params}
 use Rattle.input.specs.Said.{paramsOf}
+use Rattle.printing.proofs.Leaving.{put-count}
 use Rattle.text.specs.Small.{answerOf}
-use Rattle.text.proofs.Held.{part-length, put-part}
+use Rattle.text.proofs.Held.{part-length}
 use borrow.Author.Needs.{needs}
 use Rattle.nightly.proofs.print_map.Statement.{statement}
 use Rattle.nightly.proofs.print_map.Tie as tie
@@ -73,7 +74,7 @@ slice-aggregate-write-all c =
     let e = c .before .before .before .answer-graph .ensures in
     let n = c .before .before .before .before .before .before .before .before .before .before .before in
     let f = n .before .args .file in
-    put-part (answerOf (f .d) (paramsOf (n .new .result)) (take (f .«start_count») (f .starts)) (take (f .«column_count») (f .columns)) (take (f .«value_count») (f .values))) _
+    put-count (answerOf (f .d) (paramsOf (n .new .result)) (take (f .«start_count») (f .starts)) (take (f .«column_count») (f .columns)) (take (f .«value_count») (f .values))) _
     (e .0) (e .2)
 
 -- src/main.rt:33:9

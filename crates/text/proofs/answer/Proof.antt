@@ -6,9 +6,9 @@ use Rattle.text.proofs.answer.Statement.{statement}
 use Rattle.text.proofs.answer.Tie as tie
 use Rattle.text.proofs.answer.Reads as reads
 use Rattle.text.proofs.answer.Lts as lts
-use Rattle.printing.proofs.print_refusal.Reads as print-refusal-reads
 use Rattle.reading.proofs.read_run.Reads as read-run-reads
 use Rattle.text.proofs.answer_run.Reads as answer-run-reads
+use Rattle.text.proofs.answer_fault.Reads as answer-fault-reads
 
 returns : tie.Need-returns
 returns c = let a = c .before .before .before .args in answered-short (a .bytes .now) (a .out .now) (c .if1 .taken)
@@ -32,8 +32,8 @@ returns-2 c =
     answered-text (a .bytes .now) (a .out .now) (omega (arith, r .before .if1 .left))
     (right-held (a .bytes .now) (r .read-run .ensures) (c .before .before .before .before .if2 .taken) .says) (c .before .before .answer-run .ensures)
 
-print-refusal-requires : tie.Need-print-refusal-requires
-print-refusal-requires c κs = search needs
+answer-fault-requires : tie.Need-answer-fault-requires
+answer-fault-requires c κs = search needs
 
 same-length-2 : tie.Need-same-length-2
 same-length-2 c = search needs
@@ -43,7 +43,7 @@ returns-3 c =
     let a = c .before .before .before .before .before .before .before .before .before .args in
     let r = c .before .before .before .before .before in
     answered-text (a .bytes .now) (a .out .now) (omega (arith, r .before .if1 .left))
-    (fault-held (a .bytes .now) (r .read-run .ensures) (c .before .before .before .before .if2 .left)) (c .before .before .print-refusal .ensures)
+    (fault-held (a .bytes .now) (r .read-run .ensures) (c .before .before .before .before .if2 .left)) (c .before .before .answer-fault .ensures)
 
 pub answer-spec : {M : Type 1} → statement M
 answer-spec =
@@ -54,6 +54,6 @@ answer-spec =
     answer-run-requires
     same-length
     returns-2
-    print-refusal-requires
+    answer-fault-requires
     same-length-2
     returns-3)
