@@ -10,7 +10,7 @@ ghost use Rattle.machine.specs.Closing.{closedBy, recordAfter};
 ghost use Rattle.state.specs.Said.{askedIn, stateIn};
 use state::State;
 
-mod moves; // moves.rt: the stages that only move on, or take a norm or totals along
+mod moves; // moves.rt: the stages that only move on, or take a norm, totals or the isolated rows along
 mod passes; // passes.rt: the filter's passes and the plain pass
 mod record; // record.rt: a round's places of the Ritz record
 mod reduced; // reduced.rt: totals, norms and scales, from the partials

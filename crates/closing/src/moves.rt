@@ -1,14 +1,14 @@
-// The stages that only move on, and those that take a norm or totals along.
+// The stages that only move on, and those that take a norm, totals or the isolated rows along.
 ghost use mathlib.Core.Path.{_≡_};
 ghost use Prim.Native.Nat.{_+_, _*_, _≤_};
 ghost use lib.ListN.{length};
 ghost use Rattle.definition.specs.Arith.{ieee64};
 ghost use Rattle.definition.specs.Memory.{vectorOf};
-ghost use Rattle.definition.specs.SpectralEmbedding.{rootNorm};
+ghost use Rattle.definition.specs.SpectralEmbedding.{isolatedRows, rootNorm};
 ghost use Rattle.machine.specs.State.{wide, chunkCount};
 ghost use Rattle.machine.specs.Ready.{StateReady};
-ghost use Rattle.machine.specs.Closing.{totalsOf, normOf, scalesOf, movedTo, withNorm, withBefore, withProgress, withTotals};
-ghost use Rattle.state.specs.Said.{askedIn, progressIn, stateIn};
+ghost use Rattle.machine.specs.Closing.{isolatedCounted, totalsOf, normOf, scalesOf, movedTo, withNorm, withBefore, withProgress, withCounts, withTotals};
+ghost use Rattle.state.specs.Said.{askedIn, progressIn, countsIn, stateIn};
 use crate::reduced;
 use state::State;
 
@@ -21,17 +21,20 @@ pub fn moved_to(state: State, stage: usize) -> State
     next
 }
 
-// Degrees: the norm of the roots, which the v0 stage divides by.
+// Degrees: the norm of the roots, which the v0 stage divides by, and how many rows are isolated by theirs.
 pub fn close_degrees(state: State, v0: &[f64]) -> State
     requires { ⌜ state .asked .rows ≤ length (now v0) ⌝ }
-    ensures { λ r. ⌜ stateIn r ≡ withProgress ieee64
-        (withNorm ieee64 2 (rootNorm ieee64 (state .asked .rows) (vectorOf (ieee64 .none) (now (v0 .entry)))) (progressIn (state .progress))) (stateIn state) ⌝ }
+    ensures { λ r. ⌜ stateIn r ≡ withCounts ieee64
+        (withNorm ieee64 2 (rootNorm ieee64 (state .asked .rows) (vectorOf (ieee64 .none) (now (v0 .entry)))) (progressIn (state .progress)))
+        (isolatedCounted (isolatedRows ieee64 (state .asked .rows) (vectorOf (ieee64 .none) (now (v0 .entry)))) (countsIn (state .counts))) (stateIn state) ⌝ }
 {
     let asked = state.asked;
     let norm = sums::root_norm(asked.rows, v0);
+    let isolated = sums::isolated_rows(asked.rows, v0);
     let mut next = state;
     next.progress.stage = 2;
     next.progress.norm = norm;
+    next.counts.isolated = isolated;
     next
 }
 

@@ -1,6 +1,7 @@
 -- The laws of the definitions: nothing here is a definition that a reader must believe.
 pub mod Tests
 pub mod Sums
+pub mod Isolated
 pub mod Fill
 pub mod Places
 pub mod Chunks

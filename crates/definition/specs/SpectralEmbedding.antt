@@ -2,7 +2,7 @@
 use mathlib.Core.Bool.{Bool, true, false, cond}
 use mathlib.Core.List.{List}
 use Prim.Native.Nat.{ℕ, zero, suc, _+_, _-_, _*_}
-use lib.Dec.{eqb, ltb}
+use lib.Dec.{ltb}
 use lib.ListN.{length, getD}
 use Rattle.definition.specs.Arith.{Arith}
 use Rattle.definition.specs.Numbers.{Params, width}
@@ -11,17 +11,12 @@ use Rattle.definition.specs.MatvecCombine.{Operator}
 use Rattle.definition.specs.Arrange.{arrangedBy}
 use Rattle.definition.specs.ChebyshevRayleighRitz.{Solving, solved, recordAt, rotated}
 
--- what a whole run counts: passes closed; columns refreshed and zeroed over all rounds; rows with no entries
+-- what a whole run counts: passes closed; columns refreshed and zeroed over all rounds; rows that took the inverse weight 1e-12
 pub record Counts : Type 0 where
   pub passes : ℕ
   pub refreshed : ℕ
   pub zeroed : ℕ
   pub isolated : ℕ
-
--- the rows with no entries, among the first n
-unfoldable pub isolatedRows : (ℕ → ℕ) → ℕ → ℕ
-isolatedRows start zero = 0
-isolatedRows start (suc n) = isolatedRows start n + cond (eqb (start n) (start (n + 1))) 1 0
 
 -- row i's entries sorted by column, equal columns in input order
 -- the entries from a up to e, as places counted from a
@@ -44,12 +39,21 @@ module _ (A : Arith) where
   unfoldable pub degreeRoot : (ℕ → ℕ) → (ℕ → A .F) → Vector A
   degreeRoot start value i = A .root (degree start value i)
 
+  -- the root > 1e-12, which no NaN is
+  abbrev pub aboveFloor : A .F → Bool
+  aboveFloor root = A .lt (A .weightFloor) root
+
   -- 1/root if the root > 1e-12, else 1e-12
   unfoldable pub inverseOf : A .F → A .F
-  inverseOf root = cond (A .lt (A .weightFloor) root) (A .div (A .one) root) (A .weightFloor)
+  inverseOf root = cond (aboveFloor root) (A .div (A .one) root) (A .weightFloor)
 
   unfoldable pub inverseWeight : (ℕ → ℕ) → (ℕ → A .F) → Vector A
   inverseWeight start value i = inverseOf (degreeRoot start value i)
+
+  -- the rows that took 1e-12 because their root was not above it, among the first n
+  unfoldable pub isolatedRows : ℕ → Vector A → ℕ
+  isolatedRows zero root = 0
+  isolatedRows (suc n) root = isolatedRows n root + cond (aboveFloor (root n)) 0 1
 
   -- ---- edges
   -- value x inverse weight of the column
@@ -151,5 +155,5 @@ module _ (A : Arith) where
       passes = params .rounds * (params .degree + 1);
       refreshed = solution .basis .refreshed;
       zeroed = solution .basis .zeroed;
-      isolated = isolatedRows (g .start) (g .rows);
+      isolated = isolatedRows (g .rows) (rootOfRow g);
     }

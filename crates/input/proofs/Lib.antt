@@ -2,5 +2,4 @@
 pub mod Flags
 pub mod Verdicts
 pub mod Accepted
-pub mod Isolated
 pub mod Determined

@@ -22,7 +22,6 @@ pub use request::test_lent;
 pub use request::test_params;
 pub use request::test_request;
 pub use request::test_seed_std;
-pub use scan::isolated_rows;
 
 // A refusal's number and its place; number 0 is no refusal.
 #[repr(C)]

@@ -1,11 +1,10 @@
-// One pass over a list each: the first fault, or how many rows have no entries.
+// One pass over a list each: the first fault.
 ghost use mathlib.Core.Path.{_≡_};
 ghost use Prim.Native.Nat.{_-_};
 ghost use lib.ListN.{length};
 ghost use Rattle.definition.specs.Arith.{isFinite};
 ghost use Rattle.definition.specs.Memory.{wholesOf};
 ghost use Rattle.definition.specs.Refusals.{firstFrom, falls};
-ghost use Rattle.definition.specs.SpectralEmbedding.{isolatedRows};
 ghost use Rattle.input.specs.Said.{high, unfinite, short};
 
 // Neither NaN nor infinite. (A constant can't be an infinity, a quotient can.)
@@ -70,19 +69,4 @@ pub fn first_short(lent: [usize; 11], sizes: [usize; 11]) -> usize
         j += 1;
     }
     j
-}
-
-// How many rows have no entries.
-pub fn isolated_rows(starts: &[u64]) -> u64
-    ensures { λ r. ⌜ r ≡ isolatedRows (wholesOf (now (starts .entry))) (length (now (starts .entry)) - 1) ⌝ }
-{
-    let mut count = 0;
-    let mut i = 0;
-    while i + 1 < starts.len() {
-        if starts[i] == starts[i + 1] {
-            count += 1;
-        }
-        i += 1;
-    }
-    count
 }

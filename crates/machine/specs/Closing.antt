@@ -10,7 +10,7 @@ use Rattle.definition.specs.ChunkedColumnReduce.{sumUp}
 use Rattle.definition.specs.JacobiEigen.{Matrix, symmetrized, jacobiEigen}
 use Rattle.definition.specs.Memory.{vectorOf, blockOf, numberAt, fillRange}
 use Rattle.definition.specs.OrthonormalizeBlock.{Ending, kept, refreshed, zeroed, raisedRefreshed, raisedZeroed}
-use Rattle.definition.specs.SpectralEmbedding.{Counts, rootNorm, spread, scaleOf}
+use Rattle.definition.specs.SpectralEmbedding.{Counts, isolatedRows, rootNorm, spread, scaleOf}
 use Rattle.machine.specs.State.{Stage, stageOf, Asked, wide, chunkCount, matrixRoom, orderRoom, Progress, State, Lent, withRecord}
 use Rattle.machine.specs.State as stage
 use Rattle.machine.specs.Work.{freeBlock, endingIn}
@@ -18,6 +18,10 @@ use Rattle.machine.specs.Work.{freeBlock, endingIn}
 -- a pass more
 abbrev pub passCounted : Counts → Counts
 passCounted t = record { passes = t .passes + 1; refreshed = t .refreshed; zeroed = t .zeroed; isolated = t .isolated }
+
+-- the isolated rows, whatever was there before
+abbrev pub isolatedCounted : ℕ → Counts → Counts
+isolatedCounted n t = record { passes = t .passes; refreshed = t .refreshed; zeroed = t .zeroed; isolated = n }
 
 module _ (A : Arith) where
   -- ---- the totals: the partials upward, a number at each place below the width, zeros behind it
@@ -164,7 +168,9 @@ module _ (A : Arith) where
   -- ---- closing, by the stage: it reads the roots in v0's memory and the partials alone
   abbrev pub closedBy : Stage → State A → List (A .F) → List (A .F) → State A
   closedBy stage.empty s roots partials = s
-  closedBy stage.degrees s roots partials = withProgress (withNorm 2 (rootNorm A (s .asked .rows) (vectorOf (A .none) roots)) (s .progress)) s
+  closedBy stage.degrees s roots partials =
+      withCounts (withNorm 2 (rootNorm A (s .asked .rows) (vectorOf (A .none) roots)) (s .progress))
+      (isolatedCounted (isolatedRows A (s .asked .rows) (vectorOf (A .none) roots)) (s .counts)) s
   closedBy stage.edges s roots partials = withProgress (movedTo 3 (s .progress)) s
   closedBy stage.v0 s roots partials = withProgress (movedTo 4 (s .progress)) s
   closedBy stage.startBlock s roots partials = withProgress (movedTo 5 (s .progress)) s

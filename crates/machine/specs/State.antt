@@ -5,9 +5,8 @@ use lib.Ieee.{Float}
 use lib.ListN.{length, getD, replicate}
 use Rattle.definition.specs.Arith.{Arith}
 use Rattle.definition.specs.ChebyshevRayleighRitz.{firstAlpha}
-use Rattle.definition.specs.Memory.{wholesOf}
 use Rattle.definition.specs.Numbers.{Params, width, chunks, defaultSeedStd}
-use Rattle.definition.specs.SpectralEmbedding.{Counts, isolatedRows}
+use Rattle.definition.specs.SpectralEmbedding.{Counts}
 
 -- the stages in document 01's order, between "no run yet" and "the run has ended"
 pub data Stage : Type 0 where
@@ -133,8 +132,8 @@ module _ (A : Arith) where
   withBlock (suc (suc b)) l m = record { inverse = m .inverse; v0 = m .v0; edgeColumns = m .edgeColumns; edgeWeights = m .edgeWeights; block0 = m .block0; block1 = m .block1; block2 = l; partials = m .partials; output = m .output; ritzRecord = m .ritzRecord }
 
   -- ---- the state of a run as it opens; the state where none is open has the least numbers allowed
-  unfoldable pub begunAt : ℕ → Asked → ℕ → State
-  begunAt stage a isolated = record {
+  unfoldable pub begunAt : ℕ → Asked → State
+  begunAt stage a = record {
     asked = a;
     progress = record {
       stage = stage;
@@ -149,7 +148,7 @@ module _ (A : Arith) where
       before = A .zero;
       norm = A .zero;
     };
-    counts = record { passes = 0; refreshed = 0; zeroed = 0; isolated = isolated };
+    counts = record { passes = 0; refreshed = 0; zeroed = 0; isolated = 0 };
     totals = replicate matrixRoom (A .zero);
     matrix = replicate matrixRoom (A .zero);
     vectors = replicate matrixRoom (A .zero);
@@ -167,7 +166,7 @@ module _ (A : Arith) where
   }
 
   unfoldable pub openedState : ℕ → Params → Lists → State
-  openedState d p g = begunAt 1 (askedOf d p g) (isolatedRows (wholesOf (g .starts)) (length (g .starts) - 1))
+  openedState d p g = begunAt 1 (askedOf d p g)
 
   unfoldable pub emptyState : State
-  emptyState = begunAt 0 (record { dims = 1; rows = 1; entries = 0; rounds = 1; degree = 1; seedStd = defaultSeedStd }) 0
+  emptyState = begunAt 0 (record { dims = 1; rows = 1; entries = 0; rounds = 1; degree = 1; seedStd = defaultSeedStd })

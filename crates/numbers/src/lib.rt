@@ -10,7 +10,7 @@ ghost use Rattle.definition.specs.Root.{rootOf};
 ghost use Rattle.definition.specs.SplitmixUnit.{wrapMul, splitmixUnit};
 ghost use Rattle.definition.specs.ChebyshevRayleighRitz.{nextBound, firstAlpha, nextAlpha, firstMultipliers, laterMultipliers, plainMultipliers};
 ghost use Rattle.definition.specs.OrthonormalizeBlock.{ending};
-ghost use Rattle.definition.specs.SpectralEmbedding.{inverseOf, v0Of, scaleOf};
+ghost use Rattle.definition.specs.SpectralEmbedding.{aboveFloor, inverseOf, v0Of, scaleOf};
 ghost use Rattle.numbers.specs.Answers.{multipliersOf, endingOf, raised, lowered};
 
 // The square root of x, rounded to nearest. Of -0 it is -0, and of anything else below zero and of
@@ -68,11 +68,18 @@ pub fn splitmix_unit(index: u64) -> f64
 
 // ---- the degrees' numbers
 
-// The inverse weight of a row with that root of its degree; isolated rows get a vanishing one.
+// Whether a row with that root of its degree is no isolated one. A NaN is never greater.
+pub fn above_floor(root: f64) -> bool
+    ensures { λ r. ⌜ r ≡ aboveFloor ieee64 root ⌝ }
+{
+    1e-12 < root
+}
+
+// The inverse weight of such a row; isolated rows get a vanishing one.
 pub fn inverse_of(root: f64) -> f64
     ensures { λ r. ⌜ r ≡ inverseOf ieee64 root ⌝ }
 {
-    if 1e-12 < root { 1.0 / root } else { 1e-12 }
+    if above_floor(root) { 1.0 / root } else { 1e-12 }
 }
 
 // The number of v0 for a row with that root of its degree.

@@ -10,7 +10,6 @@ use Rattle.definition.specs.Memory.{mapFrom, pick, fillRange}
 use Rattle.definition.specs.Numbers.{chunks, firstRow, lentSizes}
 use Rattle.definition.specs.Refusals.{orElse, firstFrom, testDims, testRows, testLimits, testLengths, testStarts, testColumns, testValues, testRounds, testDegree, testSeedStd, testLent, testParams, testGraph, testRequest}
 use Rattle.definition.specs.Root.{rootOf}
-use Rattle.definition.specs.SpectralEmbedding.{isolatedRows}
 use Rattle.definition.specs.SplitmixUnit.{wrapAdd, wrapMul, mixed, unitOf, splitmixUnit}
 use Rattle.held.specs.Marks.{cleared}
 use Rattle.held.specs.Places.{fillWhere}
@@ -25,5 +24,5 @@ allHold [] = true
 allHold (c ∷ cs) = c .holds && allHold cs
 
 pub cases-hold : allHold cases ≡ true
-unfolding cases definition.cases ofBits toBits ofInt round div sub mul lt le rootOf wrapAdd wrapMul mixed unitOf splitmixUnit t1 firstAlpha nextBound mapFrom pick fillRange chunks firstRow lentSizes orElse firstFrom testDims testRows testLimits testLengths testStarts testColumns testValues testRounds testDegree testSeedStd testLent testParams testGraph testRequest isolatedRows cleared fillWhere begunAt openedState noneFrom askedSound countsSound orderSound boundSound alphaSound progressSound stateSound isOpen listsEnough lentEnough startsSound columnsSound rowsSound chunkSound listsSound soundForChunk testChunk work openCall chunkCall
+unfolding cases definition.cases ofBits toBits ofInt round div sub mul lt le rootOf wrapAdd wrapMul mixed unitOf splitmixUnit t1 firstAlpha nextBound mapFrom pick fillRange chunks firstRow lentSizes orElse firstFrom testDims testRows testLimits testLengths testStarts testColumns testValues testRounds testDegree testSeedStd testLent testParams testGraph testRequest cleared fillWhere begunAt openedState noneFrom askedSound countsSound orderSound boundSound alphaSound progressSound stateSound isOpen listsEnough lentEnough startsSound columnsSound rowsSound chunkSound listsSound soundForChunk testChunk work openCall chunkCall
 cases-hold = refl

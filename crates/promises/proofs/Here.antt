@@ -13,8 +13,9 @@ use Rattle.definition.specs.Memory.{wholesOf, vectorOf, blockOf}
 use Rattle.definition.specs.Numbers.{Params, width, chunks, dimsMost}
 use Rattle.definition.specs.Refusals.{passes, testSeedStd}
 use Rattle.definition.specs.Requirements.{Columns}
-use Rattle.definition.specs.SpectralEmbedding.{Counts, isolatedRows, edgeColumn}
+use Rattle.definition.specs.SpectralEmbedding.{Counts, isolatedRows, rootOfRow, edgeColumn}
 use Rattle.definition.proofs.Fill.{split}
+use Rattle.definition.proofs.Isolated.{isolated-most}
 use Rattle.input.specs.Valid.{ValidParams, ValidGraph}
 use Rattle.held.specs.Calls.{Machine, Base, full, whole}
 use Rattle.held.proofs.Law.{Ends, ends-on}
@@ -24,7 +25,7 @@ use Rattle.machine.specs.Ready.{AskedReady, CountsReady, ProgressReady, StateRe
 use Rattle.machine.specs.Work.{work}
 use Rattle.machine.specs.Closing.{closed, tidied}
 use Rattle.ready.proofs.Tested.{state-sound}
-use Rattle.promises.specs.Run.{Steady, machineOf}
+use Rattle.promises.specs.Run.{Steady, machineOf, graphIn}
 use Rattle.promises.specs.Shows.{Shows, ShowsGraph, HoldsEdges, HoldsBlock}
 use Rattle.promises.proofs.Cong.{start-most, start-up, column-below}
 use Rattle.promises.proofs.Fits.{Fit}
@@ -38,15 +39,6 @@ pub record Sure (A : Arith) (d : ℕ) (params : Params) (g : Lists A) : Type 0 w
   pub numbers : ValidParams params
   pub seed : passes (testSeedStd (params .seedStd)) ≡ true
   pub steady : Steady A
-
-pub isolated-most : (start : ℕ → ℕ) (n : ℕ) → isolatedRows start n ≤ n
-unfolding isolatedRows
-isolated-most start zero = omega arith
-isolated-most start (suc n) = omega (arith, isolated-most start n, one (eqb (start n) (start (n + 1))))
-  where
-    one : (b : Bool) → cond {A = ℕ} b 1 0 ≤ 1
-    one true = omega arith
-    one false = omega arith
 
 module _ (A : Arith) (d : ℕ) (params : Params) (g : Lists A) (U : Sure A d params g) where
   abbrev pub a : Asked
@@ -87,23 +79,33 @@ module _ (A : Arith) (d : ℕ) (params : Params) (g : Lists A) (U : Sure A d par
     pub order : List ℕ
     pub ordered : (j : ℕ) → j < orderRoom → getD order j 0 < k
 
+  -- the isolated rows: i of them, which is 0 until the degrees have closed and the definition's count from then on
+  abbrev pub isolatedIn : ℕ
+  isolatedIn = isolatedRows A n (rootOfRow A (graphIn A g))
+
+  abbrev pub tallyWith : ℕ → ℕ → ℕ → ℕ → Counts
+  tallyWith i p r z = record { passes = p; refreshed = r; zeroed = z; isolated = i }
+
   abbrev pub tally : ℕ → ℕ → ℕ → Counts
-  tally p r z = record { passes = p; refreshed = r; zeroed = z; isolated = isolatedRows (wholesOf (g .starts)) n }
+  tally = tallyWith isolatedIn
 
   abbrev pub progress : ℕ → ℕ → ℕ → ℕ → ℕ → ℕ → ℕ → A .F → A .F → A .F → A .F → Progress A
   progress st r j c t cur prev b al before norm =
       record { stage = st; round = r; pass = j; column = c; attempt = t; current = cur; previous = prev; bound = b; alpha = al; before = before; norm = norm }
 
-  abbrev pub here : ℕ → ℕ → ℕ → ℕ → ℕ → ℕ → ℕ → A .F → A .F → ℕ → ℕ → ℕ → Idle → State A
-  here st r j c t cur prev b al p f z w = record {
+  abbrev pub hereWith : ℕ → ℕ → ℕ → ℕ → ℕ → ℕ → ℕ → ℕ → A .F → A .F → ℕ → ℕ → ℕ → Idle → State A
+  hereWith i st r j c t cur prev b al p f z w = record {
     asked = a;
     progress = progress st r j c t cur prev b al (w .before) (w .norm);
-    counts = tally p f z;
+    counts = tallyWith i p f z;
     totals = w .totals;
     matrix = w .matrix;
     vectors = w .vectors;
     order = w .order;
   }
+
+  abbrev pub here : ℕ → ℕ → ℕ → ℕ → ℕ → ℕ → ℕ → A .F → A .F → ℕ → ℕ → ℕ → Idle → State A
+  here = hereWith isolatedIn
 
   -- the numbers are in range
   pub record Fine (r j c t cur prev : ℕ) (b al : A .F) (p f z : ℕ) : Type 0 where
@@ -119,15 +121,22 @@ module _ (A : Arith) (d : ℕ) (params : Params) (g : Lists A) (U : Sure A d par
     pub refreshed : f ≤ params .rounds * k
     pub zeroed : z ≤ params .rounds * k
 
-  pub fine-sound : (st r j c t cur prev : ℕ) (b al : A .F) (p f z : ℕ) (w : Idle) → st ≤ lastStage → Fine r j c t cur prev b al p f z
-      → stateSound A (here st r j c t cur prev b al p f z w) ≡ true
-  fine-sound st r j c t cur prev b al p f z w l F =
-      state-sound A (here st r j c t cur prev b al p f z w) (record {
+  pub fine-sound-with : (i : ℕ) → i ≤ n → (st r j c t cur prev : ℕ) (b al : A .F) (p f z : ℕ) (w : Idle) → st ≤ lastStage → Fine r j c t cur prev b al p f z
+      → stateSound A (hereWith i st r j c t cur prev b al p f z w) ≡ true
+  fine-sound-with i few st r j c t cur prev b al p f z w l F =
+      state-sound A (hereWith i st r j c t cur prev b al p f z w) (record {
         asked = asked-ready;
         progress = record { round = F .round; pass = F .pass; column = F .column; attempt = F .attempt; current = F .current; previous = F .previous };
-        counts = record { passes = F .passes; refreshed = F .refreshed; zeroed = F .zeroed; isolated = isolated-most (wholesOf (g .starts)) n };
+        counts = record { passes = F .passes; refreshed = F .refreshed; zeroed = F .zeroed; isolated = few };
         order = w .ordered;
       }) (U .seed) l (F .bound) (F .alpha)
+
+  pub isolated-few : isolatedIn ≤ n
+  isolated-few = isolated-most A n (rootOfRow A (graphIn A g))
+
+  pub fine-sound : (st r j c t cur prev : ℕ) (b al : A .F) (p f z : ℕ) (w : Idle) → st ≤ lastStage → Fine r j c t cur prev b al p f z
+      → stateSound A (here st r j c t cur prev b al p f z w) ≡ true
+  fine-sound = fine-sound-with isolatedIn isolated-few
 
   -- ---- the lent edges name rows below n
   find-row : (j p : ℕ) → j ≤ n → p < getD (g .starts) j 0 → (i : ℕ) × (i < j) × (getD (g .starts) i 0 ≤ p) × (p < getD (g .starts) (i + 1) 0)
@@ -155,23 +164,29 @@ module _ (A : Arith) (d : ℕ) (params : Params) (g : Lists A) (U : Sure A d par
   abbrev pub worked : State A → Lent A → Lent A
   worked s m = whole (λ h x. work A s g h x) C m
 
-  pub on : (st r j c t cur prev : ℕ) (b al : A .F) (p f z : ℕ) (w : Idle) (m : Lent A) (rest : ℕ) (Q : Base K → Type 0) → 1 ≤ st → st < lastStage → Fine r j c t cur prev b al p f z
-      → LentReady A a m → (readsEdges st ≡ true → HoldsEdges A d params g m) → Shows A d params g (at (here st r j c t cur prev b al p f z w) m)
-      → Leads rest (at (closed A (here st r j c t cur prev b al p f z w) (worked (here st r j c t cur prev b al p f z w) m)) (tidied A (here st r j c t cur prev b al p f z w) (worked (here st r j c t cur prev b al p f z w) m))) Q
-      → Leads (suc rest) (at (here st r j c t cur prev b al p f z w) m) Q
+  abbrev pub On : ℕ → Type 1
+  On i = (st r j c t cur prev : ℕ) (b al : A .F) (p f z : ℕ) (w : Idle) (m : Lent A) (rest : ℕ) (Q : Base K → Type 0) → 1 ≤ st → st < lastStage → Fine r j c t cur prev b al p f z
+      → LentReady A a m → (readsEdges st ≡ true → HoldsEdges A d params g m) → Shows A d params g (at (hereWith i st r j c t cur prev b al p f z w) m)
+      → Leads rest (at (closed A (hereWith i st r j c t cur prev b al p f z w) (worked (hereWith i st r j c t cur prev b al p f z w) m)) (tidied A (hereWith i st r j c t cur prev b al p f z w) (worked (hereWith i st r j c t cur prev b al p f z w) m))) Q
+      → Leads (suc rest) (at (hereWith i st r j c t cur prev b al p f z w) m) Q
+
+  pub on-with : (i : ℕ) → i ≤ n → On i
   unfolding full
-  on st r j c t cur prev b al p f z w m rest Q l u F L E S next =
-      ends-on K (Fit A d params g) (Shows A d params g) rest (here st r j c t cur prev b al p f z w) m (worked (here st r j c t cur prev b al p f z w) m) Q
+  on-with i few st r j c t cur prev b al p f z w m rest Q l u F L E S next =
+      ends-on K (Fit A d params g) (Shows A d params g) rest (hereWith i st r j c t cur prev b al p f z w) m (worked (hereWith i st r j c t cur prev b al p f z w) m) Q
       (ne-eqb st lastStage (λ e. omega arith))
       (record {
         asks = refl;
-        state = fine-sound st r j c t cur prev b al p f z w (omega arith) F;
+        state = fine-sound-with i few st r j c t cur prev b al p f z w (omega arith) F;
         begun = l;
         last = omega arith;
         lent = L;
         edges = λ e. edges-below m (E e);
       })
       S refl next
+
+  pub on : On isolatedIn
+  on = on-with isolatedIn isolated-few
 
   -- a state that is known by an equation
   pub known : (s s′ : State A) (m : Lent A) (rest : ℕ) (Q : Base K → Type 0) → s ≡ s′ → Leads rest (at s′ m) Q → Leads rest (at s m) Q

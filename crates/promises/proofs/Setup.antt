@@ -13,9 +13,10 @@ use Rattle.definition.specs.ChunkedColumnReduce.{Vector, Block, sumUp, square}
 use Rattle.definition.specs.Memory.{vectorOf, wholesOf, numberAt}
 use Rattle.definition.specs.Numbers.{Params, width, chunks, firstRow, chunkRows}
 use Rattle.definition.specs.Requirements.{Starts}
-use Rattle.definition.specs.SpectralEmbedding.{degreeRoot, inverseWeight, edgeColumn, edgeWeight, weightOf, edge, rootNorm, inverseOfRow, rootOfRow, v0}
+use Rattle.definition.specs.SpectralEmbedding.{degreeRoot, inverseWeight, isolatedRows, edgeColumn, edgeWeight, weightOf, edge, rootNorm, inverseOfRow, rootOfRow, v0}
 use Rattle.definition.specs.SpectralEmbedding as embedding
 use Rattle.definition.proofs.Chunks.{chunk-of, chunk-from, chunk-to, first-most, first-up}
+use Rattle.definition.proofs.Isolated.{isolated-cong}
 use Rattle.definition.proofs.Rows.{row-holding}
 use Rattle.definition.proofs.Sums.{sum-cong}
 use Rattle.held.specs.Calls.{Base, whole}
@@ -35,7 +36,7 @@ use Rattle.promises.proofs.Lenses.{inverseL, v0L, edgeColumnsL, edgeWei
 use Rattle.promises.proofs.Acts.{own-entry-once, acts-by}
 use Rattle.promises.proofs.Fits.{chunk-starts}
 use Rattle.promises.proofs.After.{rows-after}
-use Rattle.promises.proofs.Here.{Sure, asked-ready, Idle, here, Fine, fine-sound, Leads, at, worked, on, Standing, K}
+use Rattle.promises.proofs.Here.{Sure, asked-ready, Idle, isolatedIn, isolated-few, hereWith, Fine, fine-sound-with, Leads, at, worked, on, on-with, known, Standing, K}
 use Rattle.promises.proofs.Column.{standing-block}
 use Rattle.promises.proofs.Rounds.{Begun}
 
@@ -89,6 +90,9 @@ module _ (A : Arith) (d : ℕ) (params : Params) (g : Lists A) (U : Sure A d par
     pub degrees-norm : rootNorm A n (vectorOf (A .none) (m₁ .v0)) ≡ rootNorm A n (rootOfRow A (graphIn A g))
     unfolding rootNorm
     degrees-norm = ap (A .root) (sum-cong A _ _ 0 n (λ i u v. ap (square A) (degrees-roots i v)))
+
+    pub degrees-isolated : isolatedRows A n (vectorOf (A .none) (m₁ .v0)) ≡ isolatedRows A n (rootOfRow A (graphIn A g))
+    degrees-isolated = isolated-cong A n _ _ degrees-roots
 
   -- ---- edges
   module _ (m : Lent A) (L : LentReady A a m) (I : HoldsInverse A d params g m) where
@@ -171,8 +175,11 @@ module _ (A : Arith) (d : ℕ) (params : Params) (g : Lists A) (U : Sure A d par
     ordered = λ j l. omega (arith, getD-replicate {A = ℕ} orderRoom j 0 0 l);
   }
 
+  abbrev goesWith : ℕ → ℕ → Idle A d params g U → State A
+  goesWith i st w = hereWith A d params g U i st 0 0 0 0 0 0 (A .boundFirst) (firstAlpha A (A .boundFirst)) 0 0 0 w
+
   abbrev goes : ℕ → Idle A d params g U → State A
-  goes st w = here A d params g U st 0 0 0 0 0 0 (A .boundFirst) (firstAlpha A (A .boundFirst)) 0 0 0 w
+  goes = goesWith (isolatedIn A d params g U)
 
   fine : Fine A d params g U 0 0 0 0 0 0 (A .boundFirst) (firstAlpha A (A .boundFirst)) 0 0 0
   fine = record {
@@ -190,11 +197,11 @@ module _ (A : Arith) (d : ℕ) (params : Params) (g : Lists A) (U : Sure A d par
   }
 
   -- any stage leaves the memory as long as it was
-  kept-long : (st : ℕ) (w : Idle A d params g U) (m : Lent A) → st ≤ 20 → LentReady A a m → LentReady A a (worked A d params g U (goes st w) m)
+  kept-long : (i : ℕ) → i ≤ n → (st : ℕ) (w : Idle A d params g U) (m : Lent A) → st ≤ 20 → LentReady A a m → LentReady A a (worked A d params g U (goesWith i st w) m)
   unfolding work
-  kept-long st w m l L =
-      whole-holds (λ h x. work A (goes st w) g h x) (λ x. LentReady A a x)
-      (λ h x r. acts-by A (goes st w) g (state-ready A (goes st w) (fine-sound A d params g U st 0 0 0 0 0 0 (A .boundFirst) (firstAlpha A (A .boundFirst)) 0 0 0 w l fine)) (U .graph .rising) (stage.stageOf st) .keeps h x r) C m L
+  kept-long i few st w m l L =
+      whole-holds (λ h x. work A (goesWith i st w) g h x) (λ x. LentReady A a x)
+      (λ h x r. acts-by A (goesWith i st w) g (state-ready A (goesWith i st w) (fine-sound-with A d params g U i few st 0 0 0 0 0 0 (A .boundFirst) (firstAlpha A (A .boundFirst)) 0 0 0 w l fine)) (U .graph .rising) (stage.stageOf st) .keeps h x r) C m L
 
   start-made : (m : Lent A) → ShowsGraph A d params g m → LentReady A a m → Stands 0 (ritz.startBlock A k) (whole (λ h x. onBlock A a 0 (ritz.startBlock A k) h x) C m)
   unfolding fillOp
@@ -218,29 +225,33 @@ module _ (A : Arith) (d : ℕ) (params : Params) (g : Lists A) (U : Sure A d par
       → Leads A d params g U (suc (suc (suc (suc rest)))) (at A d params g U (openedState A d params g) m) Q
   unfolding work closed openedState begunAt w₀ v0
   setup-from m rest Q L next =
-      on A d params g U 1 0 0 0 0 0 0 (A .boundFirst) (firstAlpha A (A .boundFirst)) 0 0 0 w₀ m _ Q (omega arith) (omega arith) fine L (λ z. absurd (false≢true z)) tt
+      on-with A d params g U 0 (omega arith) 1 0 0 0 0 0 0 (A .boundFirst) (firstAlpha A (A .boundFirst)) 0 0 0 w₀ m _ Q (omega arith) (omega arith) fine L (λ z. absurd (false≢true z)) tt
+      (known A d params g U _ (goes 2 w₁) x₁ _ Q (ap (λ (i : ℕ). goesWith i 2 w₁) (degrees-isolated m L))
       (on A d params g U 2 0 0 0 0 0 0 (A .boundFirst) (firstAlpha A (A .boundFirst)) 0 0 0 w₁ x₁ _ Q (omega arith) (omega arith) fine L₁ (λ z. absurd (false≢true z)) D₁
       (on A d params g U 3 0 0 0 0 0 0 (A .boundFirst) (firstAlpha A (A .boundFirst)) 0 0 0 w₁ x₂ _ Q (omega arith) (omega arith) fine L₂ (λ z. absurd (false≢true z)) (record { degrees = D₂; edges = E₂ })
       (on A d params g U 4 0 0 0 0 0 0 (A .boundFirst) (firstAlpha A (A .boundFirst)) 0 0 0 w₁ x₃ _ Q (omega arith) (omega arith) fine L₃ (λ z. absurd (false≢true z)) G₃
-      (next w₁ x₄ (begun-at x₄ S₄)))))
+      (next w₁ x₄ (begun-at x₄ S₄))))))
     where
+      few : isolatedIn A d params g U ≤ n
+      few = isolated-few A d params g U
+
       x₁ : Lent A
-      x₁ = worked A d params g U (goes 1 w₀) m
+      x₁ = worked A d params g U (goesWith 0 1 w₀) m
 
       L₁ : LentReady A a x₁
-      L₁ = unfold work in kept-long 1 w₀ m (omega arith) L
+      L₁ = unfold work in kept-long 0 (omega arith) 1 w₀ m (omega arith) L
 
       w₁ : Idle A d params g U
       w₁ = record { before = A .zero; norm = rootNorm A n (vectorOf (A .none) (x₁ .v0)); totals = w₀ .totals; matrix = w₀ .matrix; vectors = w₀ .vectors; order = w₀ .order; ordered = w₀ .ordered }
 
       D₁ : ShowsDegrees A d params g (goes 2 w₁) x₁
-      D₁ = record { inverse = degrees-inverse m L; roots = degrees-roots m L; norm = degrees-norm m L }
+      D₁ = record { inverse = degrees-inverse m L; roots = degrees-roots m L; norm = degrees-norm m L; isolated = refl }
 
       x₂ : Lent A
       x₂ = worked A d params g U (goes 2 w₁) x₁
 
       L₂ : LentReady A a x₂
-      L₂ = unfold work in kept-long 2 w₁ x₁ (omega arith) L₁
+      L₂ = unfold work in kept-long _ few 2 w₁ x₁ (omega arith) L₁
 
       E₂ : HoldsEdges A d params g x₂
       E₂ = edges-hold x₁ L₁ (D₁ .inverse)
@@ -250,13 +261,14 @@ module _ (A : Arith) (d : ℕ) (params : Params) (g : Lists A) (U : Sure A d par
         inverse = λ i l. ap (λ (y : List (A .F)). vectorOf (A .none) y i) (edges-same x₁ L₁ (D₁ .inverse) .0) ∙ D₁ .inverse i l;
         roots = λ i l. ap (λ (y : List (A .F)). vectorOf (A .none) y i) (edges-same x₁ L₁ (D₁ .inverse) .1) ∙ D₁ .roots i l;
         norm = D₁ .norm;
+        isolated = refl;
       }
 
       x₃ : Lent A
       x₃ = worked A d params g U (goes 3 w₁) x₂
 
       L₃ : LentReady A a x₃
-      L₃ = unfold work in kept-long 3 w₁ x₂ (omega arith) L₂
+      L₃ = unfold work in kept-long _ few 3 w₁ x₂ (omega arith) L₂
 
       same₃ : {X : Type 0} (f : List (A .F) → List ℕ → List (A .F) → X) → f (x₃ .inverse) (x₃ .edgeColumns) (x₃ .edgeWeights) ≡ f (x₂ .inverse) (x₂ .edgeColumns) (x₂ .edgeWeights)
       same₃ f = whole-keeps (λ h x. v0Work A a (w₁ .norm) h x) (λ x. f (x .inverse) (x .edgeColumns) (x .edgeWeights)) (λ h x. refl) C x₂

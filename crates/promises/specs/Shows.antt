@@ -9,7 +9,7 @@ use Rattle.definition.specs.MatvecCombine.{matvecCombine}
 use Rattle.definition.specs.Memory.{rowAt, columnAt, vectorOf, wholesOf, blockOf}
 use Rattle.definition.specs.Numbers.{Params, width, chunks}
 use Rattle.definition.specs.OrthonormalizeBlock.{projected, twiceProjected}
-use Rattle.definition.specs.SpectralEmbedding.{inverseOfRow, rootOfRow, rootNorm, v0, edgeColumn, edgeWeight, eigenmap, columnSum, centredMap, scales, seedAt, counts, ritzRecord}
+use Rattle.definition.specs.SpectralEmbedding.{inverseOfRow, rootOfRow, rootNorm, isolatedRows, v0, edgeColumn, edgeWeight, eigenmap, columnSum, centredMap, scales, seedAt, counts, ritzRecord}
 use Rattle.held.specs.Calls.{Base}
 use Rattle.machine.specs.State.{Stage, stageOf, Lists, State, Lent, blockAt}
 use Rattle.machine.specs.State as stage
@@ -46,6 +46,7 @@ module _ (A : Arith) (d : ℕ) (params : Params) (g : Lists A) where
     pub inverse : HoldsInverse m
     pub roots : (i : ℕ) → i < n → vectorOf (A .none) (m .v0) i ≡ rootOfRow A (graphIn A g) i
     pub norm : s .progress .norm ≡ rootNorm A n (rootOfRow A (graphIn A g))
+    pub isolated : s .counts .isolated ≡ isolatedRows A n (rootOfRow A (graphIn A g))
 
   -- after the edges
   pub record ShowsEdges (s : State A) (m : Lent A) : Type 0 where

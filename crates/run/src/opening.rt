@@ -16,8 +16,8 @@ use state::Progress;
 use state::State;
 
 // At a stage, with nothing done yet: all numbers are 0 but the filter's first bound and the alpha that it sets.
-fn begun_at(stage: usize, asked: Asked, isolated: usize) -> State
-    ensures { λ r. ⌜ stateIn r ≡ begunAt ieee64 stage (askedIn asked) isolated ⌝ }
+fn begun_at(stage: usize, asked: Asked) -> State
+    ensures { λ r. ⌜ stateIn r ≡ begunAt ieee64 stage (askedIn asked) ⌝ }
 {
     let bound = 0.75;
     let alpha = numbers::first_alpha(bound);
@@ -38,7 +38,7 @@ fn begun_at(stage: usize, asked: Asked, isolated: usize) -> State
         passes: 0,
         refreshed: 0,
         zeroed: 0,
-        isolated,
+        isolated: 0,
     };
     let zeros = [0.0; 225];
     let order = [0; 15];
@@ -65,7 +65,7 @@ fn empty_state() -> State
         degree: 1,
         seed_std: SpectralParams::DEFAULT_SEED_STD,
     };
-    begun_at(0, asked, 0)
+    begun_at(0, asked)
 }
 
 // Before the first stage of what was asked. The values of the graph have no part in it.
@@ -80,7 +80,7 @@ fn opened_state(d: u64, params: SpectralParams, starts: &[u64], columns: &[u32])
         degree: params.degree as usize,
         seed_std: params.seed_std,
     };
-    begun_at(1, asked, input::isolated_rows(starts) as usize)
+    begun_at(1, asked)
 }
 
 // Opens a run. Only the first C marks are written.

@@ -8,12 +8,12 @@ ghost use lib.ListN.{length, replicate};
 ghost use Rattle.definition.specs.Arith.{ieee64};
 ghost use Rattle.definition.specs.ChunkedColumnReduce.{sumUp, square};
 ghost use Rattle.definition.specs.OrthonormalizeBlock.{dotTerm};
-ghost use Rattle.definition.specs.SpectralEmbedding.{rootNorm};
+ghost use Rattle.definition.specs.SpectralEmbedding.{isolatedRows, rootNorm};
 ghost use Rattle.definition.specs.Memory.{vectorOf, blockOf, fillRange};
 ghost use Rattle.definition.specs.Requirements.{Span, Width};
 ghost use Rattle.sums.specs.Accumulators.{withPartial, productTerm};
 
-mod row; // row.rt: what one row adds to the sums
+mod row; // row.rt: what one row adds to the sums, or to the count of isolated rows
 mod rows; // rows.rt: the sums over the rows from `first` up to `end`
 mod put; // put.rt: the sums, copied to their place among the partials
 pub mod exports; // exports.rt: for programs in other languages
@@ -136,6 +136,20 @@ pub fn total_norm(chunks: usize, k: usize, partials: &[f64]) -> f64
 {
     let sums = totals(chunks, k, 1, partials);
     numbers::root(sums[0])
+}
+
+// How many of v0's roots are those of isolated rows.
+pub fn isolated_rows(n: usize, v0: &[f64]) -> usize
+    requires { ⌜ n ≤ length (now v0) ⌝ }
+    ensures { λ r. ⌜ r ≡ isolatedRows ieee64 n (vectorOf (ieee64 .none) (now (v0 .entry))) ⌝ }
+{
+    let mut count = 0;
+    let mut i = 0;
+    while i < n {
+        count += row::isolated(v0[i]);
+        i += 1;
+    }
+    count
 }
 
 // The norm of v0's roots: one sum over all n rows, and in no chunks.

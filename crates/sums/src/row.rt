@@ -1,4 +1,4 @@
-// What one row adds to the sums. `from` is where the row begins in its list.
+// What one row adds to the sums, or to the count of isolated rows. `from` is where the row begins in its list.
 ghost use mathlib.Core.Path.{_≡_};
 ghost use mathlib.Core.Bool.{cond};
 ghost use Prim.Native.Nat.{_+_, _-_, _*_, _≤_, _<_};
@@ -7,7 +7,15 @@ ghost use lib.ListN.{length};
 ghost use Rattle.definition.specs.Arith.{ieee64};
 ghost use Rattle.definition.specs.ChunkedColumnReduce.{square};
 ghost use Rattle.definition.specs.Memory.{vectorOf, rowAt, columnAt};
+ghost use Rattle.definition.specs.SpectralEmbedding.{aboveFloor};
 ghost use Rattle.sums.specs.Accumulators.{raised};
+
+// 1 for the root of an isolated row.
+pub fn isolated(root: f64) -> usize
+    ensures { λ r. ⌜ r ≡ cond (aboveFloor ieee64 root) 0 1 ⌝ }
+{
+    if numbers::above_floor(root) { 0 } else { 1 }
+}
 
 // Its numbers.
 pub fn add_numbers(acc: &mut [f64; 225], width: usize, list: &[f64], from: usize)

@@ -6,8 +6,11 @@ use Rattle.closing.proofs.moves.close_degrees.Tie as tie
 root-norm-requires : tie.Need-root-norm-requires
 root-norm-requires c κs = search needs
 
+isolated-rows-requires : tie.Need-isolated-rows-requires
+isolated-rows-requires c κs = search needs
+
 returns : tie.Need-returns
-returns c = rw (c .before .before .root-norm .ensures)
+returns c = let r = c .before .before .before in rw (r .before .root-norm .ensures, r .isolated-rows .ensures)
 
 pub close-degrees-spec : {M : Type 1} → statement M
-close-degrees-spec = tie.close (tie.spec root-norm-requires returns)
+close-degrees-spec = tie.close (tie.spec root-norm-requires isolated-rows-requires returns)

@@ -8,16 +8,13 @@ use Rattle.run.proofs.opening.opened_state.Tie as tie
 row-count-requires : tie.Need-row-count-requires
 row-count-requires c κs = search needs
 
-isolated-rows-requires : tie.Need-isolated-rows-requires
-isolated-rows-requires c κs = search needs
-
 begun-at-requires : tie.Need-begun-at-requires
 begun-at-requires c κs = search needs
 
 returns : tie.Need-returns
 unfolding openedState
-returns c = λ values. c .begun-at .ensures ∙ rw (c .before .isolated-rows .ensures, c .before .before .row-count .ensures)
+returns c = λ values. c .begun-at .ensures ∙ rw (c .before .row-count .ensures)
 
 pub opened-state-spec : {M : Type 1} → statement M
 opened-state-spec =
-    tie.close (tie.spec row-count-requires isolated-rows-requires begun-at-requires returns)
+    tie.close (tie.spec row-count-requires begun-at-requires returns)
