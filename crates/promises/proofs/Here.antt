@@ -1,15 +1,13 @@
 -- A run at the beginning of a stage: its state by its numbers, in range; and one stage more. Assumes nothing.
 use mathlib.Core.Path.{_≡_, refl, sym, ap, ap₂, _∙_, subst}
-use mathlib.Core.Bool.{Bool, true, false, cond}
+use mathlib.Core.Bool.{true}
 use mathlib.Core.List.{List}
 use Prim.Native.Nat.{ℕ, zero, suc, _+_, _-_, _*_, _≤_, _<_}
 use native.Mathlib.Omega.{arith}
 use borrow.Author.Tests.{ne-eqb}
-use lib.Dec.{eqb, ltb}
 use lib.ListN.{length, getD}
 use Rattle.definition.specs.Arith.{Arith}
 use Rattle.definition.specs.ChunkedColumnReduce.{Block}
-use Rattle.definition.specs.Memory.{wholesOf, vectorOf, blockOf}
 use Rattle.definition.specs.Numbers.{Params, width, chunks, dimsMost}
 use Rattle.definition.specs.Refusals.{passes, testSeedStd}
 use Rattle.definition.specs.Requirements.{Columns}
