@@ -7,7 +7,7 @@
  * crates/definition and crates/machine). None asks for anything first, except what C itself leaves to the caller: a list's address and
  * length must be those of memory that is there, aligned for its elements, and a list that is written must overlap no other list of the call;
  * and the thread must have the stack that a call takes: about 55,000 bytes (closing 54,700, reading a run file 51,300, writing one 50,700, the
- * one call 43,600, a chunk 41,200, opening 18,100, writing an answer 9,800; bindings/c/stack.c measures them).
+ * one call 43,600, a chunk 41,200, opening 18,000, writing an answer 9,800; bindings/c/stack.c measures them).
  *
  * Call the short forms: threshcinch_embed, threshcinch_run_open, _run_chunk, _run_close, _run_accepted and _run_owed, threshcinch_file_write,
  * _file_read and threshcinch_answer_write, and threshcinch_set_seed_std. They are a few lines around the library's own functions, the long
@@ -100,7 +100,7 @@ extern "C" {
  * that is 0 the second one too: one of them rises whenever a program that was linked before would go wrong, so that such a program does not
  * find the new one. */
 
-#define THRESHCINCH_VERSION "0.2.1"
+#define THRESHCINCH_VERSION "0.3.0"
 
 THRESHCINCH_API const char *const threshcinch_version;
 
@@ -178,7 +178,9 @@ typedef struct {
   double norm;
 } threshcinch_progress;
 
-/* operator passes closed; columns refreshed and zeroed, over all rounds; rows with no entries */
+/* operator passes closed; columns refreshed and zeroed, over all rounds; isolated rows: those whose degree's root is not above 1e-12, or is NaN,
+ * so that they took the inverse weight 1e-12; rows with no entries are among them, and rows whose degree is below zero. In a held run isolated is 0
+ * until the degrees (stage 1) are closed: that closing sets it, and no other call changes it. */
 typedef struct {
   size_t passes;
   size_t refreshed;

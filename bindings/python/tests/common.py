@@ -22,6 +22,41 @@ def csr(starts, columns, values):
     return sparse.csr_matrix(arrays, shape=(rows, rows))
 
 
+# The least number whose root is above 1e-12: two steps above 1e-24, whose root is 1e-12 itself.
+JUST_ABOVE = float.fromhex("0x1.357c299a88ea9p-80")
+
+# What a row may hold, and whether that isolates it.
+ROW_KINDS = (
+    ((), True),
+    ((1.0, -1.0), True),
+    ((-0.0, -0.0), True),
+    ((5e-324,), True),
+    ((1e-24,), True),
+    ((JUST_ABOVE,), False),
+    ((1.0,), False),
+    ((1e24,), False),
+    ((1e308, 1e308), False),  # a degree of plus infinity, as is its root
+    ((-1.0,), True),  # the root is NaN
+    ((-5e-324,), True),
+    ((-1e308, -1e308), True),  # a degree of minus infinity
+)
+
+
+def graph_of_kinds(rows):
+    """Rows that hold one kind after the other, in the columns behind their own."""
+    starts, columns, values = [0], [], []
+    for row in range(rows):
+        held, _ = ROW_KINDS[row % len(ROW_KINDS)]
+        columns += [(row + step) % rows for step in range(1, len(held) + 1)]
+        values += held
+        starts.append(len(values))
+    return csr(starts, columns, values)
+
+
+# A row of each kind: eight are isolated, and one of them has no entries.
+KINDS = graph_of_kinds(12)
+
+
 def bits(seed):
     """The numbers' bits, every NaN as the oracle writes it."""
     found = np.ascontiguousarray(seed).view(np.uint64).copy()

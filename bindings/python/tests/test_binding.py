@@ -533,7 +533,7 @@ class Module(Case):
 
     def test_counts_are_told_with_their_meaning(self):
         for name in Counts._fields:
-            self.assertRegex(Counts.__doc__, rf"(?m)^    {name} +\w")
+            self.assertRegex(Counts.__doc__, rf"(?m)^ *{name} +\w")  # Python 3.13 takes the indent away
 
     def test_version_is_the_others(self):
         cargo = (ROOT / "bindings" / "rust" / "Cargo.toml").read_text()
@@ -569,9 +569,9 @@ class Module(Case):
         self.assertTrue(threshcinch.__version__.startswith(_library.SERIES))
         self.assertEqual(data.count(ours), 1)
         with tempfile.TemporaryDirectory() as folder:
-            pathlib.Path(folder, "libthreshcinch.so").write_bytes(data.replace(ours, b"0.1.0\0"))
+            pathlib.Path(folder, "libthreshcinch.so").write_bytes(data.replace(ours, b"0.2.1\0"))
             last = self.fails("import threshcinch", THRESHCINCH_LIB=folder)
-        self.assertIn("is version 0.1.0, and this package needs 0.2.x", last)
+        self.assertIn("is version 0.2.1, and this package needs 0.3.x", last)
 
     def libc(self):
         """The C library that this process has: a library, but not ours."""

@@ -21,7 +21,7 @@ from threshcinch import Run, _command, graph_digest, read_run, seed_digest, spec
 from threshcinch._bar import bar
 from threshcinch._look import warnings_about
 
-from .common import HERE, PACKAGE, bits, csr, random_graph
+from .common import HERE, KINDS, PACKAGE, bits, csr, random_graph
 
 
 class Files(unittest.TestCase):
@@ -74,7 +74,7 @@ class Seeds(Files):
         digests = f"graph {graph_digest(self.graph)} {self.path('graph.npz')}\nseed {seed_digest(seed)} {self.output}\n"
         words = (
             f"60 rows, {self.graph.nnz} entries; 2 numbers a row, 5 rounds of degree 20, seed_std 0.0001\n"
-            f"105 operator passes, {counts.refreshed} columns refreshed, 0 columns zeroed, 0 rows with no entries\n"
+            f"105 operator passes, {counts.refreshed} columns refreshed, 0 columns zeroed, 0 isolated rows\n"
         )
         self.assertEqual((status, out, err), (0, words + digests, ""))
         self.assertEqual(self.command("digest", self.path("graph.npz"), self.output), (0, digests, ""))
@@ -163,6 +163,30 @@ class Warnings(Files):
         counts = spectral_embedding(csr([0, 1, 2], [1, 0], [1.0, 1.0]))[1]
         self.assertGreater(counts.zeroed, 0)
         self.warned(csr([0, 1, 2], [1, 0], [1.0, 1.0]), f"columns were zeroed {counts.zeroed} times")
+
+    def weakened(self, *rows):
+        """The graph with the links of these rows so weak that the roots of their degrees are not above 1e-12."""
+        scale = sparse.diags([1e-26 if row in rows else 1.0 for row in range(60)])
+        return (scale @ self.graph @ scale).tocsr()
+
+    def test_isolated_rows_that_have_entries(self):
+        """They lie at one place, though the graph links each of them with others."""
+        for rows, said in (((7,), "1 isolated row has entries: "), ((7, 30, 44), "3 isolated rows have entries: ")):
+            graph = self.weakened(*rows)
+            self.warned(graph, said + "the root of the degree is not above 1e-12, or is NaN, and a seed mostly has such rows at one place")
+            _, out, _ = self.seed(graph)
+            self.assertIn(f", 0 columns zeroed, {len(rows)} isolated rows\n", out)
+            seed = np.load(self.output)
+            self.assertLess(np.ptp(seed[list(rows)], axis=0).max(), 1e-9 * np.ptp(seed))
+
+    def test_isolated_rows_with_no_entries(self):
+        """They are counted, and what there is to say of them the components say."""
+        graph = sparse.block_diag([self.graph, sparse.csr_matrix((2, 2))], "csr")
+        self.warned(graph, "the graph has 3 components")
+        self.assertIn(", 2 isolated rows\n", self.seed(graph)[1])
+        graph = sparse.block_diag([self.weakened(7), sparse.csr_matrix((2, 2))], "csr")
+        self.warned(graph, "the graph has 3 components", "1 isolated row has entries")
+        self.assertIn(", 3 isolated rows\n", self.seed(graph)[1])
 
 
 class RunFiles(Files):
@@ -392,6 +416,16 @@ class Stopped(Files):
         graph = self.stored(csr([0, 1, 2], [1, 0], [1.0, 2.0]))
         self.refused("seed.npy.held: the saved run is of threshcinch 0.1, which kept no Ritz record", "seed", graph, "-o", self.output, "--resume")
         self.assertTrue(os.path.exists(self.output + ".held"))
+
+    def test_a_save_of_version_2(self):
+        """It goes on, and the count is the one that a run from its opening has."""
+        shutil.copy(HERE / "version2.held", self.output + ".held")
+        graph = self.stored(KINDS)
+        status, out, _ = self.command("seed", graph, "-o", self.output, "--resume")
+        seed, counts = spectral_embedding(KINDS, 1, 2, 2)
+        self.assertEqual((status, out.split()[-2]), (0, seed_digest(seed)))
+        self.assertIn(f" columns zeroed, {counts.isolated} isolated rows\n", out)
+        self.assertFalse(os.path.exists(self.output + ".held"))
 
     def test_what_does_not_fit(self):
         self.refused("seed.npy.held", "seed", self.stored(self.graph), "-o", self.output, "--resume")

@@ -3,12 +3,13 @@ import os
 import pathlib
 import tempfile
 import threading
+from unittest import mock
 
 import numpy as np
 
 from threshcinch import LoadError, Progress, Refusal, Run, _save, spectral_embedding
 
-from .common import HERE, Case, Stop, Watch, csr, ended, random_graph
+from .common import HERE, KINDS, Case, Stop, Watch, csr, ended, graph_of_kinds, random_graph
 
 # Where the parts of a save begin; threshcinch/_save.py has the table.
 VERSION = 8
@@ -16,6 +17,7 @@ GRAPH_SUM = 40
 LENGTHS = 48
 STATE = 136
 STAGE = STATE + 48
+ISOLATED = STAGE + 88 + 24
 LISTS = STATE + 5688
 
 
@@ -243,7 +245,7 @@ class Saves(Case):
             self.assertEqual(self.reason(data), "not a save")
 
     def test_version(self):
-        for other in (0, 3, 2**64 - 1):
+        for other in (0, 4, 2**64 - 1):
             self.assertEqual(self.reason(self.forged(self.bytes(), VERSION, other)), "version")
 
     def test_a_save_of_version_1(self):
@@ -256,6 +258,101 @@ class Saves(Case):
         self.assertEqual(self.reason(stored), "no Ritz record")
         with self.assertRaisesRegex(LoadError, "threshcinch 0.1, which kept no Ritz record: go on with it there, or begin it anew"):
             self.load(stored)
+
+    def counted_by_entries(self, run, rows):
+        """The run as threshcinch 0.2 saved it: version 2, and its isolated rows are so many with no entries."""
+        run.save(self.path)
+        return self.forged(self.forged(self.path.read_bytes(), VERSION, 2), ISOLATED, rows)
+
+    def goes_on(self, graph, run, rows, **words):
+        """Saved by 0.2 it is the run that this version saves, in every byte, and so has the end of the one call."""
+        old = self.counted_by_entries(run, rows)
+        new = self.path.read_bytes()
+        loaded = self.load(old, graph)
+        self.assertEqual(loaded.counts, run.counts)
+        loaded.save(self.path)
+        self.assertEqual(self.path.read_bytes(), new)
+        loaded.drive(2)
+        self.same(ended(loaded), spectral_embedding(graph, **words))
+
+    def test_a_save_of_version_2(self):
+        """At its opening, in every kind of stage and at its end."""
+        words = {"dims": 1, "rounds": 1, "degree": 2}
+        run = Run.open(KINDS, **words)
+        self.goes_on(KINDS, run, 1, **words)
+        seen = set()
+        while run.is_open:
+            run.chunk(0)
+            if run.progress().stage not in seen:
+                seen.add(run.progress().stage)
+                self.goes_on(KINDS, run, 1, **words)
+            run.close()
+            self.assertEqual(run.counts.isolated, 8)
+        self.assertEqual(len(seen), 19)
+        self.goes_on(KINDS, run, 1, **words)
+
+    def test_a_save_of_version_2_of_several_chunks(self):
+        graph = graph_of_kinds(4104)
+        words = {"dims": 1, "rounds": 1, "degree": 1}
+        run = Run.open(graph, **words)
+        run.chunk(1)
+        self.goes_on(graph, run, 342, **words)
+        run.drive(1, lambda accepted, owed: run.stop() if run.progress().stage == "plain pass" else None)
+        self.assertEqual(run.counts.isolated, 342 * 8)
+        self.goes_on(graph, run, 342, **words)
+
+    def test_a_stored_save_of_version_2(self):
+        """threshcinch 0.2.1 wrote version2.held, of a run over KINDS (dims 1, rounds 2, degree 2) that stands a chunk into the stage behind its
+        first round's products. Its version, its count and so its check sum are other than today, and nothing else."""
+        stored = (HERE / "version2.held").read_bytes()
+        words = {"dims": 1, "rounds": 2, "degree": 2}
+        run = Run.open(KINDS, **words)
+        while not run.rounds_closed:
+            run.chunk(0)
+            run.close()
+        run.chunk(0)
+        self.assertEqual(self.counted_by_entries(run, 1), stored)
+        self.goes_on(KINDS, run, 1, **words)
+        run = Run.load(KINDS, HERE / "version2.held")
+        self.assertEqual((run.counts.isolated, run.chunks_left(), run.rounds_closed), (8, [], 1))
+
+    def test_a_damaged_save_of_version_2(self):
+        run = Run.open(KINDS, dims=1, rounds=1, degree=2)
+        run.chunk(0)
+        run.close()
+        data = self.counted_by_entries(run, 1)
+        self.assertEqual(self.load(data, KINDS).counts.isolated, 8)
+        self.assertEqual(self.reason(data[:-1], KINDS), "length")
+        for place in (ISOLATED, STAGE, LISTS, len(data) - 1):
+            self.assertEqual(self.reason(data[:place] + bytes([data[place] ^ 1]) + data[place + 1 :], KINDS), "check sum", place)
+        self.assertEqual(self.reason(data), "other graph")
+        for place, number, refusal in ((ISOLATED, 13, 16), (STAGE, 0, 15)):
+            with self.assertRaises(LoadError) as caught:
+                self.load(self.forged(data, place, number), KINDS)
+            self.assertEqual((caught.exception.reason, caught.exception.__cause__.number), ("refused", refusal))
+
+    def test_a_save_of_version_2_over_a_graph_that_no_run_opens_with(self):
+        """Only a forged one is."""
+        data = self.counted_by_entries(self.small(), 0)
+        self.load(data)
+        wrong = csr([0, 1, 2], [1, 0], [1.0, np.nan])
+        found = _save._sum_of([wrong.indptr.astype(np.uint64), wrong.indices.astype(np.uint32), wrong.data])
+        with self.assertRaises(LoadError) as caught:
+            self.load(self.forged(data, GRAPH_SUM, found), wrong)
+        self.assertEqual((caught.exception.reason, caught.exception.__cause__.number), ("refused", 7))
+
+    def test_a_save_of_version_2_with_too_little_memory(self):
+        """The rows are counted once all else is known to fit, and not where the count is known to be 0."""
+        run = Run.open(KINDS, dims=1, rounds=1, degree=2)
+        opened = self.counted_by_entries(run, 1)
+        run.drive()
+        closed = self.counted_by_entries(run, 1)
+        with mock.patch("threshcinch._run.prepare", side_effect=MemoryError):
+            with self.assertRaises(MemoryError):
+                self.load(closed, KINDS)
+            self.assertEqual(self.reason(self.forged(closed, STAGE, 21), KINDS), "refused")
+            self.assertEqual(self.load(opened, KINDS).counts.isolated, 0)
+            self.assertEqual(self.load(self.forged(closed, VERSION, 3), KINDS).counts.isolated, 1)
 
     def test_changed_bytes(self):
         data = self.bytes()

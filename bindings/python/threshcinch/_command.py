@@ -15,7 +15,7 @@ from . import __version__, _digest
 from ._bar import bar
 from ._digest import graph_digest, seed_digest
 from ._files import Trouble, kind_of, read_graph, read_seed
-from ._look import warnings_about
+from ._look import warnings_about, warnings_after
 from ._refusal import TEXT, LoadError, Refusal
 from ._run import Run
 from ._save import written_whole
@@ -33,7 +33,8 @@ the digests of graph and seed.
 
 GRAPH is what scipy.sparse.save_npz writes. CSR is taken as it stands, entries in their order; another format is converted by SciPy's
 .tocsr(), with a word on standard error. Also on standard error, and never in the numbers: columns twice in a row, a graph that is not
-symmetric, several components, zeroed columns.
+symmetric, several components, zeroed columns, isolated rows that have entries. A row is isolated where the root of its degree is not above
+1e-12, or is NaN; rows with no entries are among them.
 
 --record writes the Ritz record, which shows how the spectrum settled, as NumPy's .npy: an array of float64 with a row for each round, the bound
 that the round's filter used and then its D + 8 Ritz values, falling, NaN last.
@@ -156,8 +157,8 @@ def _graph_of(path: str):
     return graph
 
 
-def _warn(graph) -> None:
-    for line in warnings_about(graph):
+def _warn(lines: list[str]) -> None:
+    for line in lines:
         say(f"warning: {line}")
 
 
@@ -252,7 +253,7 @@ def _print_run(run: Run) -> None:
     )
     print(
         f"{counts.passes} operator passes, {counts.refreshed} columns refreshed, "
-        f"{counts.zeroed} columns zeroed, {counts.isolated} rows with no entries"
+        f"{counts.zeroed} columns zeroed, {counts.isolated} isolated rows"
     )
 
 
@@ -261,7 +262,7 @@ def seed(asked) -> int:
     _check_places(asked.output, save, *([asked.record] if asked.record else []))
     graph = _graph_of(asked.graph)
     run = _begin(graph, asked, save)
-    _warn(graph)
+    _warn(warnings_about(graph))
     stopped = _drive(run, asked.threads, save)
     if stopped is not None:
         return 128 + stopped
@@ -270,8 +271,7 @@ def seed(asked) -> int:
     _write_array(asked.output, run.seed)
     if asked.resume:
         os.unlink(save)
-    if run.counts.zeroed:
-        say(f"warning: columns were zeroed {run.counts.zeroed} times: the block found less directions than it has columns")
+    _warn(warnings_after(graph, run.counts))
     with _output():
         _print_run(run)
         print("graph", run.graph_digest, asked.graph)
@@ -294,7 +294,7 @@ def _run_text(graph, asked) -> bytes:
 def run_file(asked) -> int:
     graph = _graph_of(asked.graph)
     left = memoryview(_run_text(graph, asked))
-    _warn(graph)
+    _warn(warnings_about(graph))
     with _output():
         while left:  # an unbuffered file may take less than it is given
             left = left[sys.stdout.buffer.write(left) :]

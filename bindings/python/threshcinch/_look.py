@@ -1,4 +1,4 @@
-"""What a user should know of a graph that the library takes all the same. Nothing here reaches the numbers."""
+"""What a user should know of a graph that the library takes all the same, and of what a run over it counted. Nothing here reaches the numbers."""
 from __future__ import annotations
 
 import numpy as np
@@ -11,6 +11,24 @@ def warnings_about(graph) -> list[str]:
     once.sum_duplicates()  # of the copy: it sorts and sums in place
     found = [_twice(graph, once), _asymmetric(once), _components(once)]
     return [line for line in found if line]
+
+
+def warnings_after(graph, counts) -> list[str]:
+    """A line each for: columns that were zeroed, isolated rows that have entries."""
+    found = [_zeroed(counts), _isolated(graph, counts)]
+    return [line for line in found if line]
+
+
+def _zeroed(counts) -> str:
+    return f"columns were zeroed {counts.zeroed} times: the block found less directions than it has columns" if counts.zeroed else ""
+
+
+def _isolated(graph, counts) -> str:
+    number = counts.isolated - int(np.count_nonzero(np.diff(graph.indptr) == 0))
+    if number <= 0:
+        return ""
+    held = _several(number, "isolated row has", "isolated rows have")
+    return f"{held} entries: the root of the degree is not above 1e-12, or is NaN, and a seed mostly has such rows at one place"
 
 
 def _several(number: int, one: str, many: str) -> str:

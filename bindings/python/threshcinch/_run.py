@@ -25,6 +25,7 @@ STAGES = (
     "no run,degrees,edges,v0,start block,filter pass,norm before,dots,subtract,dots again,subtract again,norm after,write,"
     "plain pass,products,rotate and unscale,sums,subtract the means,squares,scale,ended"
 ).split(",")
+DEGREES = STAGES.index("degrees")
 PRODUCTS = STAGES.index("products")
 ENDED = len(STAGES) - 1
 
@@ -37,7 +38,8 @@ class Counts(NamedTuple):
                 all rounds. 0 is normal; in a graph of few rows, or of few distinct eigenvalues, it is not.
     zeroed      columns that collapsed once more after that, and were set to zero; over all rounds. 0 is normal. A zeroed column spans
                 nothing: a block of k = dims + 8 columns found less than k directions.
-    isolated    rows of the graph with no entries
+    isolated    rows whose degree's root is not above 1e-12, or is NaN, so that they took the inverse weight 1e-12; rows with no entries are among
+                them, and rows whose degree is below zero. 0 is normal. An open run has 0 until its degrees are closed.
     """
 
     passes: int
@@ -314,10 +316,15 @@ class Run(_Recorded):
 
     @classmethod
     def load(cls, graph: Graph, path: Union[str, os.PathLike]) -> Run:
-        """The run that `save` wrote, over the same graph. Raises LoadError where the file does not fit."""
-        graph_lists, state, memory = _save.read(path, graph)
+        """The run that `save` wrote, over the same graph. Raises LoadError where the file does not fit.
+
+        A file of threshcinch 0.2 is taken too. Where that run's degrees are closed, its isolated rows are counted anew, which takes the memory of
+        a second run of one dimension and one round as long as this call lasts."""
+        graph_lists, state, memory, version = _save.read(path, graph)
         run = cls(graph_lists, memory, state)
         run._check()
+        if version == _save.COUNTED_BY_ENTRIES:
+            state.counts.isolated = 0 if state.progress.stage == DEGREES else _isolated_by_roots(graph)
         return run
 
     def _check(self) -> None:
@@ -329,6 +336,19 @@ class Run(_Recorded):
             if refusal.number == NO_CHUNK or (refusal.number == NO_RUN and self._at[0].progress.stage == ENDED):
                 return
             raise LoadError("refused") from refusal
+
+
+def _isolated_by_roots(graph: Graph) -> int:
+    """How many rows of it are isolated: what a run of the least memory counts as it closes its degrees, so that the library decides. Such a run
+    opens over every graph that a run was ever opened over; a forged file may be over another."""
+    try:
+        run = Run.open(graph, dims=1, rounds=1, degree=1)
+        for number in run.chunks_left():
+            run.chunk(number)
+        run.close()
+    except Refusal as refusal:
+        raise LoadError("refused") from refusal
+    return run.counts.isolated
 
 
 def _one_call(graph: Graph, dims: int, params) -> Embedding:

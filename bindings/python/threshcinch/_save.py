@@ -3,13 +3,16 @@
 All numbers are little-endian, whole ones of 8 bytes, floats as their bits:
 
     8         the letters TCINCHRN
-    8         version, 2
+    8         version, 3
     3 x 8     lengths of the graph's starts, columns and values
     8         check sum of the graph's lists
     11 x 8    lengths of the lent lists 0 to 10
     5,688     the state, field after field
               the lent lists 0 to 10: 8 bytes an element, but 4 for the edge columns and 1 for the marks
     8         check sum of all bytes before it
+
+Version 2, of threshcinch 0.2, counted the rows with no entries as isolated, from the opening on, and has else the same bytes. It is read, and
+nothing is lost: the graph says how many rows are isolated, and Run.load has the library count them (none where the degrees are not closed).
 
 Version 1, of threshcinch 0.1, had no list 10, the Ritz record. It is not read, as the rounds that it has closed are not to be had from it.
 
@@ -30,7 +33,8 @@ from ._library import MEMORY_KINDS, State
 from ._refusal import LoadError, Refusal
 
 LETTERS = b"TCINCHRN"
-VERSION = 2
+VERSION = 3
+COUNTED_BY_ENTRIES = 2
 WITHOUT_RECORD = 1
 WORD = np.dtype("<u8")
 LENGTHS_BYTES = 8 * len(MEMORY_KINDS)
@@ -130,24 +134,24 @@ def write(path, graph_lists, state: State, memory) -> None:
 # ---- reading
 
 
-def read(path, graph) -> tuple[list[np.ndarray], State, list[np.ndarray]]:
-    """The graph's lists, the state and the lent lists, or LoadError. The tests have the order of the Rust binding's."""
+def read(path, graph) -> tuple[list[np.ndarray], State, list[np.ndarray], int]:
+    """The graph's lists, the state, the lent lists and the version, or LoadError. The tests have the order of the Rust binding's."""
     data = np.fromfile(path, np.uint8)
-    lengths = _check_bytes(data)
+    version, lengths = _check_bytes(data)
     graph_lists = lists_of(*stored(graph))
     _check_graph(data, graph_lists)
     state = State.from_buffer_copy(data[HEAD_BYTES : HEAD_BYTES + STATE_BYTES].tobytes())
     _check_lengths(state, graph_lists, lengths)
-    return graph_lists, state, _lists(data, lengths)
+    return graph_lists, state, _lists(data, lengths), version
 
 
-def _check_bytes(data: np.ndarray) -> list[int]:
-    """The file begins as it should, is as long as it says, and has the right check sum: answers the lent lists' lengths."""
+def _check_bytes(data: np.ndarray) -> tuple[int, list[int]]:
+    """The file begins as it should, is as long as it says, and has the right check sum: answers its version and the lent lists' lengths."""
     if data.size < 16 and data[:8].tobytes() == LETTERS[: data.size]:
         raise LoadError("length")
     if data[:8].tobytes() != LETTERS:
         raise LoadError("not a save")
-    _check_version(int(data[8:16].view(WORD)[0]))
+    version = _check_version(int(data[8:16].view(WORD)[0]))
     if data.size < HEAD_BYTES:
         raise LoadError("length")
     lengths = data[HEAD_BYTES - LENGTHS_BYTES : HEAD_BYTES].view(WORD).tolist()
@@ -156,14 +160,15 @@ def _check_bytes(data: np.ndarray) -> list[int]:
         raise LoadError("length")
     if int(data[-8:].view(WORD)[0]) != check_sum(data[:-8]):
         raise LoadError("check sum")
-    return lengths
+    return version, lengths
 
 
-def _check_version(version: int) -> None:
+def _check_version(version: int) -> int:
     if version == WITHOUT_RECORD:
         raise LoadError("no Ritz record")
-    if version != VERSION:
+    if version not in (VERSION, COUNTED_BY_ENTRIES):
         raise LoadError("version")
+    return version
 
 
 def _check_graph(data: np.ndarray, graph_lists) -> None:

@@ -60,7 +60,8 @@ pub struct Counts {
     pub refreshed: usize,
     /// Columns zeroed, over all rounds.
     pub zeroed: usize,
-    /// Rows with no entries.
+    /// Isolated rows: those whose degree's root is not above 1e-12, or is NaN, so that they took the inverse weight 1e-12; rows with no entries
+    /// are among them, and rows whose degree is below zero. 0 until the degrees are closed.
     pub isolated: usize,
 }
 

@@ -5,13 +5,17 @@
 //! | bytes | what |
 //! |---|---|
 //! | 8 | the letters `TCINCHRN` |
-//! | 8 | version, 2 |
+//! | 8 | version, 3 |
 //! | 3 x 8 | lengths of the graph's starts, columns and values |
 //! | 8 | check sum of the graph's lists |
 //! | 11 x 8 | lengths of the lent lists 0 to 10 |
 //! | 5,688 | the state, field after field (docs/STATE.md) |
 //! | | the lent lists 0 to 10: 8 bytes an element, but 4 for the edge columns and 1 for the marks |
 //! | 8 | check sum of all bytes before it |
+//!
+//! Version 2, of threshcinch 0.2, counted the rows with no entries as isolated, from the opening on, and has else the same bytes. A run that was
+//! saved so is taken, and nothing of it is lost: its graph says how many rows are isolated. They are counted as the run is loaded, by the
+//! library, or are 0 where its degrees are not closed.
 //!
 //! Version 1, of threshcinch 0.1, had no list 10, the Ritz record. A run that was saved so is not taken: the places of the rounds that it has
 //! closed are not to be had from it.
@@ -20,10 +24,12 @@
 //! not forgers. What a forger can reach is a run that meets refusal 16 or has another seed: the library asks for nothing first.
 
 use crate::ffi::{Asked, Counts, State, StateProgress};
-use crate::{Graph, Memory, Reason, Refusal, Run};
+use crate::{Graph, Memory, Params, Reason, Refusal, Run};
 
 const LETTERS: [u8; 8] = *b"TCINCHRN";
-const VERSION: u64 = 2;
+const VERSION: u64 = 3;
+/// The version that had counted isolated rows by their entries, and not by the roots of their degrees.
+const COUNTED_BY_ENTRIES: u64 = 2;
 /// The version that had no Ritz record.
 const WITHOUT_RECORD: u64 = 1;
 const STATE_WORDS: usize = size_of::<State>() / 8;
@@ -49,7 +55,8 @@ pub enum LoadError {
     OtherGraph,
     /// The lent lists have not the lengths that the state needs.
     Lists,
-    /// The library does not take the state (16), no run is in it (15), or the machine has not the memory (11).
+    /// The library does not take the state (16), no run is in it (15), or the machine has not the memory (11). A forged save of threshcinch 0.2
+    /// may be over a graph that no run opens with (5 to 7).
     Refused(Refusal),
 }
 
@@ -57,7 +64,9 @@ impl std::fmt::Display for LoadError {
     fn fmt(&self, to: &mut std::fmt::Formatter<'_>) -> std::fmt::Result {
         match self {
             LoadError::NotASave => write!(to, "the bytes are not a saved run"),
-            LoadError::Version(version) => write!(to, "the saved run has version {version}, and only {VERSION} is read"),
+            LoadError::Version(version) => {
+                write!(to, "the saved run has version {version}, and only {COUNTED_BY_ENTRIES} and {VERSION} are read")
+            }
             LoadError::NoRitzRecord => {
                 write!(to, "the saved run is of threshcinch 0.1, which kept no Ritz record: go on with it there, or begin it anew")
             }
@@ -99,6 +108,9 @@ impl<'g> Run<'g> {
     }
 
     /// The run that [`Run::save`] wrote, over the same graph. Bytes that were cut, lengthened or changed are refused.
+    ///
+    /// Those of threshcinch 0.2 are taken too. Where that run's degrees are closed, its isolated rows are counted anew, which takes the memory of a
+    /// second run of one dimension and one round as long as this call lasts.
     pub fn load(graph: &Graph<'g>, bytes: &[u8]) -> Result<Run<'g>, LoadError> {
         let mut from = Reader { bytes };
         let head = from.head()?;
@@ -108,8 +120,24 @@ impl<'g> Run<'g> {
         check_lengths(graph, &state, &head.lengths)?;
         // Only now is anything allocated: these lengths are those of the bytes at hand.
         let memory = from.memory(&state)?;
-        let run = Run { graph: *graph, memory, state };
-        run.taken_by_the_library()
+        let mut run = Run { graph: *graph, memory, state }.taken_by_the_library()?;
+        if head.version == COUNTED_BY_ENTRIES {
+            run.state.counts.isolated = run.isolated_by_roots().map_err(LoadError::Refused)?;
+        }
+        Ok(run)
+    }
+
+    /// The isolated rows as this version counts them, from the graph alone: none before the degrees are closed, and else what another run over the
+    /// graph counts as it closes its own. So the library decides, and not this crate. That run has the least memory, which ends with it.
+    fn isolated_by_roots(&self) -> Result<usize, Refusal> {
+        const DEGREES: usize = 1;
+        if self.state.progress.stage == DEGREES {
+            return Ok(0);
+        }
+        let mut other = Run::open(&self.graph, 1, Params::new().rounds(1)?.degree(1)?)?;
+        (0..other.chunk_count()).try_for_each(|number| other.chunk(number))?;
+        other.close()?;
+        Ok(other.state.counts.isolated)
     }
 
     /// Offers the library a chunk that no run has. It tests the state and the lists' lengths first, so that 12 says that they are sound,
@@ -129,6 +157,7 @@ impl<'g> Run<'g> {
 
 /// What stands before the state.
 struct Head {
+    version: u64,
     graph_lengths: [u64; 3],
     graph_sum: u64,
     lengths: [u64; 11],
@@ -234,13 +263,13 @@ impl Reader<'_> {
         if self.take()? != LETTERS {
             return Err(LoadError::NotASave);
         }
-        match self.word()? {
-            VERSION => {}
+        let version = match self.word()? {
+            read @ (VERSION | COUNTED_BY_ENTRIES) => read,
             WITHOUT_RECORD => return Err(LoadError::NoRitzRecord),
             other => return Err(LoadError::Version(other)),
-        }
+        };
         let graph_lengths = self.words()?;
-        Ok(Head { graph_lengths, graph_sum: self.word()?, lengths: self.words()? })
+        Ok(Head { version, graph_lengths, graph_sum: self.word()?, lengths: self.words()? })
     }
 
     fn state(&mut self) -> Result<State, LoadError> {

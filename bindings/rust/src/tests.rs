@@ -1,4 +1,5 @@
-//! What can be tried from inside alone: a run over memory whose Ritz record was lent with numbers of the caller's, or is too short.
+//! What can be tried from inside alone: a run over memory whose Ritz record was lent with numbers of the caller's, or is too short, and one whose
+//! state a host has changed.
 
 use crate::memory::Lists;
 use crate::{spectral_embedding, Graph, Memory, Params, Reason, Refusal, RitzRecord, Run};
@@ -156,4 +157,43 @@ fn a_short_record_is_16_in_an_open_run() {
     }
     let one = spectral_embedding(&graph, DIMS, params()).unwrap();
     assert!(run.finish().unwrap().ritz_record.same_bits(&one.ritz_record));
+}
+
+/// The isolated count that a run over this graph has after its degrees are closed, if it had this one before.
+fn isolated_after(graph: &Graph<'_>, before: usize) -> Result<usize, Refusal> {
+    let mut run = open_in(graph, lent_memory(graph)).unwrap();
+    run.state.counts.isolated = before;
+    run.chunk(0)?;
+    assert_eq!(run.state.counts.isolated, before, "a chunk leaves it");
+    run.close()?;
+    Ok(run.state.counts.isolated)
+}
+
+#[test]
+fn closing_the_degrees_sets_the_isolated_count_whatever_it_was() {
+    let mut ring = Ring::new();
+    // Rows 0 and 5 sum up to nothing.
+    for row in [0, 5] {
+        ring.values[2 * row + 1] = -ring.values[2 * row];
+    }
+    for before in [0, 1, 2, 7, ROWS as usize] {
+        assert_eq!(isolated_after(&ring.graph(), before), Ok(2));
+    }
+    assert_eq!(isolated_after(&ring.graph(), ROWS as usize + 1), Err(Reason::Damaged.at(0)));
+}
+
+#[test]
+fn no_later_closing_changes_the_isolated_count() {
+    let ring = Ring::new();
+    let graph = ring.graph();
+    let mut run = open_in(&graph, lent_memory(&graph)).unwrap();
+    run.chunk(0).unwrap();
+    run.close().unwrap();
+    run.state.counts.isolated = 5;
+    while run.is_open() {
+        run.chunk(0).unwrap();
+        run.close().unwrap();
+        assert_eq!(run.state.counts.isolated, 5);
+    }
+    assert_eq!(bits(&run.memory.output), bits(&spectral_embedding(&graph, DIMS, params()).unwrap().values));
 }

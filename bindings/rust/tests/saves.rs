@@ -4,7 +4,7 @@ mod common;
 
 use std::ops::ControlFlow;
 
-use common::{assert_same_memory, bits, quick, refusal, ring::Ring};
+use common::{assert_same_memory, bits, quick, refusal, ring::Ring, Kinds};
 use threshcinch::{spectral_embedding, spectral_embedding_in, Driven, Graph, LoadError, Memory, Run};
 
 /// Where the parts of a save begin; src/save.rs has the table.
@@ -12,6 +12,7 @@ const GRAPH_SUM: usize = 40;
 const LENGTHS: usize = 48;
 const STATE: usize = 136;
 const STAGE: usize = STATE + 48;
+const ISOLATED: usize = STAGE + 88 + 24;
 const LISTS: usize = STATE + 5688;
 
 /// FNV-1a, written here once more: a forged save must have the right sum.
@@ -111,6 +112,15 @@ fn a_save_holds_the_run_and_nothing_else() {
     assert_eq!((loaded.progress(), loaded.save()), (run.progress(), bytes));
 }
 
+/// What a save is refused by if this version stands in it and its sum is that of another.
+fn of_version(version: u64) -> LoadError {
+    match version {
+        1 => LoadError::NoRitzRecord,
+        2 => LoadError::CheckSum,
+        other => LoadError::Version(other),
+    }
+}
+
 #[test]
 fn every_changed_bit_is_refused() {
     let mut bytes = small().save();
@@ -118,14 +128,13 @@ fn every_changed_bit_is_refused() {
         for bit in 0..8 {
             bytes[at] ^= 1 << bit;
             let expected = match at {
-                0..8 => Some(LoadError::NotASave),
-                8..16 => load_error(&bytes).filter(|error| matches!(error, LoadError::Version(_))),
-                16..LENGTHS => Some(LoadError::CheckSum),
-                LENGTHS..STATE => Some(LoadError::Length),
-                _ => Some(LoadError::CheckSum),
+                0..8 => LoadError::NotASave,
+                8..16 => of_version(u64::from_le_bytes(bytes[8..16].try_into().unwrap())),
+                16..LENGTHS => LoadError::CheckSum,
+                LENGTHS..STATE => LoadError::Length,
+                _ => LoadError::CheckSum,
             };
-            assert!(expected.is_some());
-            assert_eq!(load_error(&bytes), expected, "byte {at} bit {bit}");
+            assert_eq!(load_error(&bytes), Some(expected), "byte {at} bit {bit}");
             bytes[at] ^= 1 << bit;
         }
     }
@@ -153,8 +162,109 @@ fn a_save_without_the_ritz_record_is_refused_with_a_word_why() {
     let words = LoadError::NoRitzRecord.to_string();
     assert_eq!(words, "the saved run is of threshcinch 0.1, which kept no Ritz record: go on with it there, or begin it anew");
     // A version to come has other words.
-    let newer = load_error(&forged(&run.save(), 8, 3)).unwrap();
-    assert_eq!((newer, newer.to_string().as_str()), (LoadError::Version(3), "the saved run has version 3, and only 2 is read"));
+    let newer = load_error(&forged(&run.save(), 8, 4)).unwrap();
+    assert_eq!((newer, newer.to_string().as_str()), (LoadError::Version(4), "the saved run has version 4, and only 2 and 3 are read"));
+}
+
+/// The run as threshcinch 0.2 saved it: version 2, and its isolated rows are so many with no entries.
+fn counted_by_entries(run: &Run<'_>, rows: u64) -> Vec<u8> {
+    forged(&forged(&run.save(), 8, 2), ISOLATED, rows)
+}
+
+/// A run that threshcinch 0.2 saved is the one that this version would have saved, in every byte, and so has the end of the one call.
+fn assert_goes_on(graph: &Graph<'_>, run: &Run<'_>, rows: u64) {
+    let mut loaded = Run::load(graph, &counted_by_entries(run, rows)).unwrap();
+    assert_eq!(loaded.state().counts, run.state().counts);
+    assert!(loaded.save() == run.save(), "{}", run.progress().stage);
+    assert_eq!(loaded.drive(2, |_| ControlFlow::Continue(())), Ok(Driven::Ended));
+    let mut memory = Memory::for_graph(graph, 1, quick()).unwrap();
+    let counts = spectral_embedding_in(graph, 1, quick(), &mut memory).unwrap();
+    assert_same_memory(loaded.memory(), &memory);
+    assert_eq!(loaded.finish().unwrap().counts, counts);
+}
+
+#[test]
+fn a_save_of_version_2_is_taken_with_its_isolated_rows_counted_anew() {
+    let kinds = Kinds::new(12);
+    let graph = kinds.graph();
+    let mut run = Run::open(&graph, 1, quick()).unwrap();
+    assert_goes_on(&graph, &run, 1);
+    let mut stages = std::collections::BTreeSet::new();
+    while run.is_open() {
+        run.chunk(0).unwrap();
+        if stages.insert(run.progress().stage) {
+            assert_goes_on(&graph, &run, 1);
+        }
+        run.close().unwrap();
+        assert_eq!(run.state().counts.isolated, 8);
+    }
+    assert_eq!(stages.len(), 19, "every kind of stage");
+    assert_goes_on(&graph, &run, 1);
+}
+
+#[test]
+fn a_save_of_version_2_has_the_rows_of_every_chunk_counted() {
+    let kinds = Kinds::new(9000);
+    let graph = kinds.graph();
+    let mut run = Run::open(&graph, 1, quick()).unwrap();
+    run.chunk(2).unwrap();
+    assert_goes_on(&graph, &run, 750);
+    run.drive(2, |progress| if progress.stage == "plain pass" { ControlFlow::Break(()) } else { ControlFlow::Continue(()) }).unwrap();
+    run.chunk(1).unwrap();
+    assert_eq!(run.state().counts.isolated, 750 * 8);
+    assert_goes_on(&graph, &run, 750);
+}
+
+/// Written by the Python binding of 0.2.1; its tests say how.
+const STORED: &[u8] = include_bytes!("../../python/tests/version2.held");
+
+#[test]
+fn a_stored_save_of_version_2_goes_on() {
+    let kinds = Kinds::new(12);
+    let graph = kinds.graph();
+    let mut run = Run::load(&graph, STORED).unwrap();
+    assert_eq!((run.state().counts.isolated, run.ritz_record().rounds()), (8, 1));
+    assert!(counted_by_entries(&run, 1) == STORED, "nothing else was changed");
+    run.drive(1, |_| ControlFlow::Continue(())).unwrap();
+    let params = quick().rounds(2).unwrap();
+    let mut memory = Memory::for_graph(&graph, 1, params).unwrap();
+    let counts = spectral_embedding_in(&graph, 1, params, &mut memory).unwrap();
+    assert_same_memory(run.memory(), &memory);
+    assert_eq!(run.finish().unwrap().counts, counts);
+}
+
+#[test]
+fn a_save_of_version_2_that_is_damaged_is_refused_as_before() {
+    let kinds = Kinds::new(12);
+    let graph = kinds.graph();
+    let mut run = Run::open(&graph, 1, quick()).unwrap();
+    run.chunk(0).unwrap();
+    run.close().unwrap();
+    let bytes = counted_by_entries(&run, 1);
+    let error = |bytes: &[u8]| Run::load(&graph, bytes).err();
+    assert_eq!(error(&bytes), None);
+    assert_eq!(error(&bytes[..bytes.len() - 1]), Some(LoadError::Length));
+    for at in [ISOLATED, STAGE, LISTS, bytes.len() - 1] {
+        let mut changed = bytes.clone();
+        changed[at] ^= 1;
+        assert_eq!(error(&changed), Some(LoadError::CheckSum), "byte {at}");
+    }
+    assert_eq!(error(&forged(&bytes, ISOLATED, 13)), Some(LoadError::Refused(refusal(16, 0))), "more rows than there are");
+    assert_eq!(error(&forged(&bytes, STAGE, 0)), Some(LoadError::Refused(refusal(15, 0))));
+    assert_eq!(load_error(&bytes), Some(LoadError::OtherGraph));
+}
+
+#[test]
+fn a_forged_save_of_version_2_over_a_graph_that_no_run_opens_with() {
+    let bytes = counted_by_entries(&small(), 0);
+    let load_over = |starts: [u64; 3], columns: [u32; 2], values: [f64; 2]| {
+        let lists = [starts.map(u64::to_le_bytes).concat(), columns.map(u32::to_le_bytes).concat(), values.map(f64::to_le_bytes).concat()];
+        Run::load(&Graph::new(&starts, &columns, &values), &forged(&bytes, GRAPH_SUM, sum_of(&lists.concat()))).err()
+    };
+    assert_eq!(load_over([0, 1, 2], [1, 0], [1.0, 2.0]), None);
+    assert_eq!(load_over([1, 1, 2], [1, 0], [1.0, 2.0]), Some(LoadError::Refused(refusal(5, 0))));
+    assert_eq!(load_over([0, 1, 2], [1, 2], [1.0, 2.0]), Some(LoadError::Refused(refusal(6, 1))));
+    assert_eq!(load_over([0, 1, 2], [1, 0], [1.0, f64::NAN]), Some(LoadError::Refused(refusal(7, 1))));
 }
 
 /// The bits of all its numbers, as they stand at the end of a save before its sum.
