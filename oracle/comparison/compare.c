@@ -10,6 +10,7 @@
 
 #include "damage.h"
 #include "held.h"
+#include "isolated.h"
 #include "lent.h"
 #include "one_call.h"
 #include "random.h"
@@ -25,6 +26,8 @@ static const struct {
 } breakages[] = {{"seed", 0, 0},
                  {"passes", 0, 0},
                  {"isolated", 0, 0},
+                 {"isolated-nan", 0, 0},
+                 {"isolated-empty", 0, 0},
                  {"refreshed", 0, 0},
                  {"zeroed", 0, 0},
                  {"graph-wrote", STARTS, VALUES},
@@ -32,6 +35,10 @@ static const struct {
                  {"held", STARTS, RITZ_RECORD},
                  {"held-overrun", INVERSE, RITZ_RECORD},
                  {"held-counts", 0, 0},
+                 {"held-isolated-left", 0, 0},
+                 {"held-isolated-nan", 0, 0},
+                 {"held-isolated-empty", 0, 0},
+                 {"held-isolated-later", 0, 0},
                  {"accepted-calls", 0, 0},
                  {"calls", 0, 0},
                  {"no-calls", 0, 0},
@@ -44,6 +51,11 @@ static const struct {
                  {"zero-counts", 0, 0},
                  {"empty-state", 0, 0},
                  {"opened-state", 0, 0},
+                 {"opened-isolated", 0, 0},
+                 {"close-isolated-added", 0, 0},
+                 {"close-isolated-at", 0, 0},
+                 {"close-isolated-above", 0, 0},
+                 {"close-isolated-behind", 0, 0},
                  {"kept-state", 0, 0},
                  {"chunk-state", 0, 0},
                  {"refused-wrote", STARTS, RITZ_RECORD},
@@ -78,6 +90,15 @@ static void print_breakage(const char *kind, int first, int last) {
 /* which of the bands of row counts */
 static int band_of(size_t rows) { return rows <= 64 ? 0 : rows <= 1000 ? 1 : rows <= 4096 ? 2 : rows <= 20000 ? 3 : 4; }
 
+static void count_isolated(const graph *g) {
+  size_t all = isolated_rows(g->starts, g->values, g->rows), empty = rows_without_entries(g->starts, g->rows);
+  size_t no_root = rows_without_root(g->starts, g->values, g->rows);
+  told_report.isolated += all > 0;
+  told_report.isolated_with_entries += all > empty;
+  told_report.isolated_no_root += no_root > 0;
+  told_report.isolated_low_root += all > empty + no_root;
+}
+
 static void count_graph(const graph *g) {
   size_t chunks = reading_chunks(g->rows);
   told_report.graphs++;
@@ -86,6 +107,7 @@ static void count_graph(const graph *g) {
   told_report.by_rows[band_of(g->rows)]++;
   told_report.by_chunks[chunks < 6 ? chunks : 6]++;
   if (told_report.most_rows < g->rows) told_report.most_rows = g->rows;
+  count_isolated(g);
 }
 
 static void try_requests(const graph *g, lists *now, random_source *random) {

@@ -420,6 +420,41 @@ static void damage_float_field(trial *t) {
   note(t, field->name, i, bits);
 }
 
+/* ---- damages of the degrees' closing */
+
+static void damage_isolated(trial *t) {
+  t->call.state.counts.isolated = 1 + random_below(t->random, t->call.state.asked.rows);
+  note(t, "degrees: isolated", 0, t->call.state.counts.isolated);
+}
+
+/* 1e-12 is 3d719799812dea11 */
+static uint64_t some_root(trial *t) {
+  const uint64_t roots[] = {UINT64_C(0x3d719799812dea10),
+                            UINT64_C(0x3d719799812dea11),
+                            UINT64_C(0x3d719799812dea11),
+                            UINT64_C(0x3d719799812dea12),
+                            UINT64_C(0x3d719799812dea12),
+                            UINT64_C(0xbd719799812dea12),
+                            0,
+                            1,
+                            bits_of(1.0),
+                            bits_of(1e12),
+                            bits_of(INFINITY),
+                            odd_float(t)};
+  return PICK(t, roots);
+}
+
+/* One to four of them, the last one half of the time. */
+static void damage_roots(trial *t) {
+  size_t rows = t->call.state.asked.rows, count = 1 + random_below(t->random, 4);
+  for (size_t i = 0; i < count; i++) {
+    size_t at = once_in(t->random, 2) ? rows - 1 : random_below(t->random, rows);
+    uint64_t bits = some_root(t);
+    change(t, V0, at, bits);
+    note(t, "degrees: roots", at, bits);
+  }
+}
+
 /* ---- choosing and trying */
 
 static const damage request_damages[] = {{damage_dims, 3},    {damage_rounds, 3},       {damage_degree, 3}, {damage_seed_std, 3},
@@ -481,18 +516,22 @@ static void check_progress(const threshcinch_state *s, const char *words) {
     differ("calls", "%zu calls accepted and %zu owed are told of a state that is damaged or empty: %s", accepted, owed, words);
 }
 
-/* The damages are one, and once in eight two. */
-static void try_call(trial *t) {
+static void make_damaged(trial *t) {
   char words[300];
   outcome out;
-  damage_once(t);
-  if (once_in(t->random, 8)) damage_once(t);
-  keep_cheap(&t->call);
   describe(t, words, sizeof words);
   if (watched(&t->call, t->now, t->before, &out, words)) lists_copy(t->now, t->before);
   if (t->call.kind >= CHUNK) check_progress(&t->call.state, words);
   count_trial(t, &out);
   mend(t);
+}
+
+/* The damages are one, and once in eight two. */
+static void try_call(trial *t) {
+  damage_once(t);
+  if (once_in(t->random, 8)) damage_once(t);
+  keep_cheap(&t->call);
+  make_damaged(t);
 }
 
 static void begin(trial *t, const call *base, lists *now, lists *before, random_source *random) {
@@ -526,6 +565,17 @@ void damage_steps(const call *base, lists *now, lists *before, random_source *ra
     begin(&t, base, now, before, random);
     choose_step(&t);
     try_call(&t);
+  }
+}
+
+void damage_degrees(const call *base, lists *now, lists *before, random_source *random) {
+  static void (*const damages[])(trial *) = {damage_isolated, damage_roots};
+  trial t;
+  for (size_t i = 0; i < sizeof damages / sizeof *damages; i++) {
+    begin(&t, base, now, before, random);
+    damages[i](&t);
+    t.damages++;
+    make_damaged(&t);
   }
 }
 

@@ -11,6 +11,10 @@
 void damage_requests(const call *base, lists *now, lists *before, random_source *random, int trials);
 void damage_steps(const call *base, lists *now, lists *before, random_source *random, int trials);
 
+/* The degrees closed with another count of isolated rows in the state, which must be set and not added to; and with other roots in v0, at
+ * and beside 1e-12 and not numbers, which must be the ones that are counted. `base` is the closing. */
+void damage_degrees(const call *base, lists *now, lists *before, random_source *random);
+
 /* The setters and the sizes at and beside their limits. */
 void damage_numbers(random_source *random, int trials);
 

@@ -2,6 +2,7 @@
 
 #include <string.h>
 
+#include "isolated.h"
 #include "lent.h"
 #include "reading.h"
 #include "record.h"
@@ -56,10 +57,11 @@ static void compare_count(const char *name, size_t ours, size_t due) {
   if (ours != due) differ("count", "%s is %zu, not %zu", name, ours, due);
 }
 
-/* Refreshed and zeroed follow the bits, so they are promised where the bits are. */
+/* Refreshed and zeroed follow the bits, so they are promised where the bits are. Isolated rows are the Rust's and the second reading's. */
 static void compare_counts(const graph *g, const threshcinch_counts *counts, enum skip skip) {
   compare_count("passes", counts->passes, g->counts.passes);
   compare_count("isolated", counts->isolated, g->counts.isolated);
+  compare_count("isolated, as the graph has it,", counts->isolated, isolated_rows(g->starts, g->values, g->rows));
   if (skip != COMPARED) return;
   compare_count("refreshed", counts->refreshed, g->counts.refreshed);
   compare_count("zeroed", counts->zeroed, g->counts.zeroed);
@@ -77,10 +79,18 @@ static void compare_rest(const graph *g, lists *l, uint64_t salt) {
   if (!is_kept) differ("graph changed", "the one call changed the graph");
 }
 
+/* The faults of a count that leaves out the rows whose root is NaN, or those that have entries. */
+static void break_isolated(const graph *g, size_t *count) {
+  size_t empty = rows_without_entries(g->starts, g->rows), no_root = rows_without_root(g->starts, g->values, g->rows);
+  if (breaks("isolated")) ++*count;
+  if (no_root && breaks("isolated-nan")) *count -= no_root;
+  if (*count != empty && breaks("isolated-empty")) *count = empty;
+}
+
 static void break_some(const graph *g, lists *l, outcome *out, enum skip skip) {
   if (skip == COMPARED && breaks("seed")) set_item(l, OUTPUT, g->rows * g->dims - 1, item(l, OUTPUT, g->rows * g->dims - 1) ^ 1);
   if (breaks("passes")) out->counts.passes++;
-  if (breaks("isolated")) out->counts.isolated++;
+  break_isolated(g, &out->counts.isolated);
   if (skip == COMPARED && breaks("refreshed")) out->counts.refreshed++;
   if (skip == COMPARED && breaks("zeroed")) out->counts.zeroed++;
   for (int which = 0; which < LENT; which++)

@@ -88,6 +88,14 @@ static void print_rounds(void) {
       of(r->rounds_same_though_skipped));
 }
 
+static void print_isolated(void) {
+  const report *r = &told_report;
+  printf(
+      "\nIsolated rows, counted by the Rust and by a second reading: in %llu graphs; some that have entries in %llu; some with a NaN for a "
+      "root in %llu, with entries and a root of at most 1e-12 in %llu\n",
+      of(r->isolated), of(r->isolated_with_entries), of(r->isolated_no_root), of(r->isolated_low_root));
+}
+
 static void print_row(const char *name, const uint64_t *counts, const char *const *labels, int count) {
   printf("  by %s:", name);
   for (int i = 0; i < count; i++) printf("  %s: %llu", labels[i], of(counts[i]));
@@ -151,6 +159,7 @@ void report_print(void) {
   print_sizes();
   print_families();
   print_rounds();
+  print_isolated();
   print_held();
   print_damages();
   printf("\nDifferences: %llu\n", of(told_report.differences));

@@ -20,6 +20,7 @@ typedef struct {
   uint64_t by_family[FAMILIES][SKIPS], same_though_skipped[FAMILIES];
   uint64_t rounds[ROUND_KINDS], rounds_same_though_skipped, record_closings;
   uint64_t by_dims[8], by_rows[5], by_chunks[7];
+  uint64_t isolated, isolated_with_entries, isolated_no_root, isolated_low_root; /* graphs with such rows */
   uint64_t held_runs, held_stages, moves;
   uint64_t accepted_calls, refused_calls[REFUSALS]; /* of the held runs, undamaged */
   uint64_t damaged, damaged_twice, damaged_answers[CALL_KINDS][REFUSALS];

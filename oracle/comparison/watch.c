@@ -2,9 +2,12 @@
 
 #include <string.h>
 
+#include "isolated.h"
 #include "reading.h"
 #include "record.h"
 #include "report.h"
+
+enum { DEGREES = 1 };
 
 /* What an accepted chunk call may write: entries from first up to last; where `width` is not 0, one column of rows of that width. */
 typedef struct {
@@ -162,19 +165,18 @@ static void check_run_work(const call *c, const lists *now, const lists *before,
   if (!are_marks_cleared(now, before, reading_chunks(rows))) differ("marks", "%s did not leave its marks at 0", words);
 }
 
-size_t isolated_rows(const uint64_t *starts, size_t rows) {
-  size_t alone = 0;
-  for (size_t i = 0; i < rows; i++) alone += starts[i] == starts[i + 1];
-  return alone;
+/* "set as the degrees close", whatever stood there; no other closing touches it */
+size_t isolated_closed(const threshcinch_state *old, const lists *l) {
+  return old->progress.stage == DEGREES ? isolated_roots(l->of[V0].at, old->asked.rows) : old->counts.isolated;
 }
 
+/* Nothing is counted yet. */
 threshcinch_state opened_state(const call *c) {
   threshcinch_state s = reading_empty_state();
   threshcinch_asked asked = {
       c->dims, c->lists.of[STARTS].length - 1, c->lists.of[COLUMNS].length, c->params.rounds, c->params.degree, c->params.seed_std};
   s.asked = asked;
-  s.progress.stage = 1;
-  s.counts.isolated = isolated_rows(c->lists.of[STARTS].at, asked.rows);
+  s.progress.stage = DEGREES;
   return s;
 }
 
@@ -217,10 +219,14 @@ static int are_counts_right(const call *c, const threshcinch_counts *counts, int
   static const threshcinch_counts zero;
   if (!is_accepted) return !memcmp(counts, &zero, sizeof zero);
   return counts->passes == c->params.rounds * (c->params.degree + 1) &&
-         counts->isolated == isolated_rows(c->lists.of[STARTS].at, c->lists.of[STARTS].length - 1);
+         counts->isolated == isolated_rows(c->lists.of[STARTS].at, c->lists.of[VALUES].at, c->lists.of[STARTS].length - 1);
 }
 
-static int is_answer_right(const call *c, const outcome *out, int is_accepted) {
+static int is_closed_right(const call *c, const threshcinch_state *new, const lists *before) {
+  return !memcmp(&new->asked, &c->state.asked, sizeof new->asked) && new->counts.isolated == isolated_closed(&c->state, before);
+}
+
+static int is_answer_right(const call *c, const outcome *out, const lists *before, int is_accepted) {
   threshcinch_state s;
   switch (c->kind) {
     case EMBED:
@@ -229,8 +235,7 @@ static int is_answer_right(const call *c, const outcome *out, int is_accepted) {
       s = is_accepted ? opened_state(c) : reading_empty_state();
       return is_state(&out->state, &s);
     case CLOSE:
-      if (is_accepted) return !memcmp(&out->state.asked, &c->state.asked, sizeof c->state.asked);
-      return is_state(&out->state, &c->state);
+      return is_accepted ? is_closed_right(c, &out->state, before) : is_state(&out->state, &c->state);
     default:
       return is_state(&out->state, &c->state);
   }
@@ -262,6 +267,26 @@ static void break_closing(const call *c, lists *now) {
   set_item(now, RITZ_RECORD, first, item(now, RITZ_RECORD, first) ^ 1);
 }
 
+/* how many of the roots have these bits */
+static size_t roots_of(const call *c, uint64_t bits) {
+  size_t count = 0;
+  for (size_t i = 0; i < c->state.asked.rows; i++) count += item(&c->lists, V0, i) == bits;
+  return count;
+}
+
+/* Faults in the isolated rows: counted at opening; as the degrees close added to what stood there, without the roots at 1e-12, with those
+ * of the next number above it, or with the number behind the roots. */
+static void break_isolated(const call *c, outcome *out) {
+  const uint64_t at = UINT64_C(0x3d719799812dea11), above = at + 1;
+  size_t *count = &out->state.counts.isolated, rows = c->state.asked.rows;
+  if (c->kind == OPEN && breaks("opened-isolated")) ++*count;
+  if (c->kind != CLOSE || c->state.progress.stage != DEGREES || rows > c->lists.of[V0].length) return;
+  if (c->state.counts.isolated && breaks("close-isolated-added")) *count += c->state.counts.isolated;
+  if (roots_of(c, at) && breaks("close-isolated-at")) *count -= roots_of(c, at);
+  if (roots_of(c, above) && breaks("close-isolated-above")) *count += roots_of(c, above);
+  if (rows < c->lists.of[V0].length && isolated_roots(c->lists.of[V0].at, rows + 1) != *count && breaks("close-isolated-behind")) ++*count;
+}
+
 /* The self-test's faults, in what was seen of a refused and of an accepted call. */
 static void break_some(const call *c, const lists *now, outcome *out) {
   int is_accepted = out->verdict.number == 0;
@@ -275,6 +300,7 @@ static void break_some(const call *c, const lists *now, outcome *out) {
     if (is_hit) set_item(&l, which, last, item(&l, which, last) ^ 1);
   }
   if (is_accepted) break_closing(c, &l);
+  if (is_accepted) break_isolated(c, out);
   break_short_record(c, out);
   if (!is_accepted && breaks("number")) out->verdict.number = out->verdict.number % 16 + 1;
   if (!is_accepted && breaks("place")) out->verdict.place++;
@@ -297,7 +323,7 @@ int watched(const call *c, const lists *now, const lists *before, outcome *out, 
            (unsigned long long)out->verdict.place, (unsigned long long)due.number, (unsigned long long)due.place);
     return 1;
   }
-  if (!is_answer_right(c, out, is_accepted)) differ("answer", "%s answers other counts or another state than it must", words);
+  if (!is_answer_right(c, out, before, is_accepted)) differ("answer", "%s answers other counts or another state than it must", words);
   if (is_accepted)
     check_accepted(c, out, now, before, words);
   else

@@ -11,7 +11,7 @@ int watched(const call *c, const lists *now, const lists *before, outcome *out, 
 /* the state that an accepted opening answers */
 threshcinch_state opened_state(const call *c);
 
-/* rows without entries */
-size_t isolated_rows(const uint64_t *starts, size_t rows);
+/* the isolated rows in the state that an accepted closing answers; the lists as it found them */
+size_t isolated_closed(const threshcinch_state *old, const lists *l);
 
 #endif

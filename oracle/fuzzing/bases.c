@@ -324,9 +324,48 @@ static void make_floats(text *t, random_source *r) {
   text_add_words(t, "\n");
 }
 
+/* Rows at the edge of being isolated: with no values; with zeros; 1 and -1; 1e16, 1 and -1e16, whose sum is 0, and in another order, whose
+ * sum is 1; 1e-24, whose root is 1e-12; the first number with a higher root; the least one; -1; sums that are infinite; 1e24, whose inverse
+ * weight is 1e-12 all the same. */
+static const char *const edge_rows[] = {"",
+                                        "0000000000000000",
+                                        "8000000000000000,8000000000000000",
+                                        "3ff0000000000000,bff0000000000000",
+                                        "4341c37937e08000,3ff0000000000000,c341c37937e08000",
+                                        "4341c37937e08000,c341c37937e08000,3ff0000000000000",
+                                        "3af357c299a88ea7",
+                                        "3af357c299a88ea9",
+                                        "0000000000000001",
+                                        "bff0000000000000",
+                                        "ffe1ccf385ebc8a0,ffe1ccf385ebc8a0",
+                                        "7fe1ccf385ebc8a0,7fe1ccf385ebc8a0",
+                                        "44ea784379d99db4"};
+
+static size_t entries_of(const char *row) { return (strlen(row) + 1) / 17; }
+
+/* One to six such rows, their columns in turn. */
+static void make_isolated(text *t, random_source *r) {
+  const char *rows[6];
+  size_t count = 1 + random_below(r, 6), entries = 0;
+  draft f = small_draft(r);
+  t->length = 0;
+  add_head(t, &f);
+  text_add_words(t, "starts=0");
+  for (size_t i = 0; i < count; i++) {
+    rows[i] = PICK(r, edge_rows);
+    entries += entries_of(rows[i]);
+    text_add_words(t, ",%zu", entries);
+  }
+  text_add_words(t, "\ncolumns=");
+  for (size_t e = 0; e < entries; e++) text_add_words(t, "%s%zu", e ? "," : "", e % count);
+  text_add_words(t, "\nvalues=");
+  for (size_t i = 0, e = 0; i < count; e += entries_of(rows[i++])) text_add_words(t, "%s%s", e && *rows[i] ? "," : "", rows[i]);
+  text_add_words(t, "\n");
+}
+
 static void make_any(text *t, random_source *r) {
-  static void (*const makers[])(text *, random_source *) = {make_small, make_small,  make_small,   make_sizes, make_head,
-                                                            make_most,  make_rounds, make_longest, make_floats};
+  static void (*const makers[])(text *, random_source *) = {make_small, make_small,  make_small,   make_sizes,  make_head,
+                                                            make_most,  make_rounds, make_longest, make_floats, make_isolated};
   PICK(r, makers)(t, r);
 }
 

@@ -37,7 +37,9 @@ static const char *const program_kinds[] = {"byte", "shorter", "longer", "status
 
 static const char *const script_kinds[] = {"silent", "number", "lines", END}, *const short_room_kinds[] = {"length", "wrote", END};
 
-static const char *const call_kinds[] = {"verdict", "passes", "isolated", END}, *const signal_kinds[] = {"crash", "endless", END};
+static const char *const call_kinds[] = {"verdict", "passes", "isolated", "isolated-empty", "isolated-nan", END};
+
+static const char *const signal_kinds[] = {"crash", "endless", END};
 
 typedef struct {
   const char *part; /* before the kind, or "" */

@@ -2,6 +2,7 @@
 
 #include "checks.h"
 #include "guarded.h"
+#include "isolated.h"
 #include "reading.h"
 #include "tally.h"
 #include "written.h"
@@ -65,32 +66,52 @@ static uint64_t run_cost(const plain_run *run) {
 
 /* ---- the text that is due */
 
-static size_t rows_without_entries(const plain_run *run) {
-  size_t count = 0;
-  for (size_t i = 0; i + 1 < run->start_count; i++) count += run->starts[i] == run->starts[i + 1];
-  return count;
-}
-
 static void due_refusal(text *due, uint64_t number, uint64_t place) {
   answer_parts parts = {.verdict = {number, place}};
   written_answer(due, &parts);
+}
+
+/* request W3's count, and the rows that a wrong one would leave out: those that have entries, and among them those without a root */
+typedef struct {
+  size_t all, with_entries, no_root;
+} isolated_count;
+
+static isolated_count isolated_of(const call *c) {
+  const uint64_t *starts = c->lists.of[STARTS].at;
+  size_t rows = c->lists.of[STARTS].length - 1, all = isolated_rows(starts, values, rows);
+  isolated_count count = {all, all - rows_without_entries(starts, rows), rows_without_root(starts, values, rows)};
+  return count;
+}
+
+static void break_call(outcome *out, const isolated_count *isolated) {
+  if (breaks("verdict")) out->verdict.number = 11;
+  if (breaks("passes")) out->counts.passes++;
+  if (breaks("isolated")) out->counts.isolated++;
+  if (isolated->with_entries && breaks("isolated-empty")) out->counts.isolated -= isolated->with_entries;
+  if (isolated->no_root && breaks("isolated-nan")) out->counts.isolated -= isolated->no_root;
+}
+
+static void count_run(const plain_run *run, const isolated_count *isolated) {
+  told.rows += run->start_count - 1;
+  told.longest_runs += run->rounds == MOST_ROUNDS;
+  told.isolated += isolated->all > 0;
+  told.isolated_with_entries += isolated->with_entries > 0;
+  told.isolated_no_root += isolated->no_root > 0;
 }
 
 /* Passes and isolated rows follow from the file alone; the other counts and the seed are the library's. */
 static void due_seed(text *due, const plain_run *run, const call *c) {
   outcome out;
   size_t rows = run->start_count - 1;
+  isolated_count isolated = isolated_of(c);
   call_make(c, &out);
-  if (breaks("verdict")) out.verdict.number = 11;
-  if (breaks("passes")) out.counts.passes++;
-  if (breaks("isolated")) out.counts.isolated++;
+  break_call(&out, &isolated);
   if (out.verdict.number) differ("verdict", "the library refuses with %llu", (unsigned long long)out.verdict.number);
   if (out.counts.passes != run->rounds * (run->degree + 1)) differ("passes", "the library's count is %zu", out.counts.passes);
-  if (out.counts.isolated != rows_without_entries(run)) differ("isolated", "the library's count is %zu", out.counts.isolated);
+  if (out.counts.isolated != isolated.all) differ("isolated", "the library's count is %zu, not %zu", out.counts.isolated, isolated.all);
   answer_parts parts = {{0, 0}, run->d, rows, out.counts, output, MOST_ROWS * MOST_DIMS};
   written_answer(due, &parts);
-  told.rows += rows;
-  told.longest_runs += run->rounds == MOST_ROUNDS;
+  count_run(run, &isolated);
 }
 
 /* Succeeds unless the run is not asked for. */

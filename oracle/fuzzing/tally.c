@@ -102,6 +102,8 @@ static void print_files(void) {
       "  rows compared %llu; runs of as many rounds as are taken %llu; accepted, and left out as drawn %llu, as too long a run %llu; with "
       "too little room %llu; taken apart and printed again by threshcinch_write_answer %llu\n",
       of(told.rows), of(told.longest_runs), of(told.not_drawn), of(told.too_dear), of(told.short_rooms), of(told.printed_again));
+  printf("  runs with isolated rows %llu, with some that have entries %llu, with some whose root is NaN %llu\n", of(told.isolated),
+         of(told.isolated_with_entries), of(told.isolated_no_root));
   print_numbers("Through seedrun:", told.programs);
   printf("  given whole %llu, in pieces %llu; also through the script %llu\n", of(told.program_ways[WHOLE]), of(told.program_ways[PIECES]),
          of(told.scripts));

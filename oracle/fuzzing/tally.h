@@ -22,6 +22,7 @@ typedef struct {
   uint64_t right_by_damage[MOST_DAMAGES], wrong_by_damage[MOST_DAMAGES];
   uint64_t right, by_fault[FAULTS];
   uint64_t answers[NUMBERS], rows, longest_runs, not_drawn, too_dear, short_rooms;
+  uint64_t isolated, isolated_with_entries, isolated_no_root; /* runs with such rows */
   uint64_t programs[NUMBERS], program_ways[WAYS], scripts;
   /* the first writer; rooms by whether something else is refused first */
   uint64_t graphs, several_faults, by_graph_fault[MOST_GRAPH_FAULTS], by_graph_number[NUMBERS], by_line[FAULTS];

@@ -21,11 +21,17 @@ struct Insertion {
     line: &'static str,
 }
 
-const INSERTIONS: [Insertion; 6] = [
+const INSERTIONS: [Insertion; 7] = [
     Insertion {
         anchor: "    let floor = T::from(1e-12).unwrap();",
         side: Side::Before,
         line: "probe::on_degrees(&degrees);",
+    },
+    // No line fits between the two cases, so what the first one divides tells that it was taken.
+    Insertion {
+        anchor: "            if s > floor { one / s } else { floor }",
+        side: Side::Before,
+        line: "let one = probe::on_root(one);",
     },
     Insertion {
         anchor: "    let mut v = chebyshev_rayleigh_ritz::<T, Dim<D>>(",

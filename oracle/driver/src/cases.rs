@@ -166,6 +166,21 @@ mod tests {
         }
     }
 
+    /// What the copy counted in its two cases, and the roots of the degrees that it showed.
+    #[test]
+    fn the_isolated_rows_are_those_of_the_degrees() {
+        let mut with_entries = 0;
+        for label in labels() {
+            let request = request(&label).unwrap();
+            let (_, record) = judge::seed_recorded(&request).unwrap();
+            let above = record.degrees.iter().filter(|degree| degree.sqrt() > 1e-12).count();
+            assert_eq!(record.isolated, (request.n() - above) as u64, "{label}");
+            let empty = (0..request.n()).filter(|&i| request.row(i).is_empty()).count();
+            with_entries += usize::from(record.isolated > empty as u64);
+        }
+        assert!(with_entries > 0, "no row of the list has entries and is isolated");
+    }
+
     #[test]
     fn the_number_of_threads_changes_no_bit() {
         let big = big::request([9000, 2, 2, 2, 3]).unwrap();
@@ -205,7 +220,7 @@ mod tests {
         let (seed, record) = judge::seed_recorded(&request("case12").unwrap()).unwrap();
         assert_eq!(record.degrees[0], f64::INFINITY);
         assert!(record.v0.iter().any(|x| x.is_nan()));
-        assert_eq!(record.zeroed, 9);
+        assert_eq!((record.zeroed, record.isolated), (9, 0));
         assert!(seed.iter().all(|x| x.to_bits() == 0));
     }
 

@@ -21,7 +21,7 @@ pub struct Conditions {
     pub nan_last: bool,
 }
 
-/// Document 01's four counts.
+/// Document 01's four counts, `isolated` as request W3 has it.
 #[derive(Clone, Copy, Debug, PartialEq, Eq)]
 pub struct Counts {
     pub passes: u64,
@@ -47,7 +47,7 @@ pub fn solve(request: &Request) -> Result<Answer, String> {
     Ok(Answer {
         seed,
         conditions: conditions(request, &record),
-        counts: counts(request, &record),
+        counts: counts(&record),
         rounds: record.rounds,
     })
 }
@@ -79,12 +79,12 @@ fn sums_to_the_start(values: &[f64]) -> bool {
     values.iter().all(|v| v.to_bits() == (-0.0f64).to_bits())
 }
 
-fn counts(request: &Request, record: &Record) -> Counts {
+fn counts(record: &Record) -> Counts {
     Counts {
         passes: record.passes,
         refreshed: record.refreshed,
         zeroed: record.zeroed,
-        isolated: (0..request.n()).filter(|&i| request.row(i).is_empty()).count() as u64,
+        isolated: record.isolated,
     }
 }
 
@@ -165,6 +165,50 @@ mod tests {
             for two in record.chunks(width).collect::<Vec<_>>().windows(2) {
                 assert_eq!(two[1][0], two[0][1 + request.d + 1].clamp(0.1, 0.9995));
             }
+        }
+    }
+
+    /// How many rows are isolated where row 0 holds these values, in columns 0 onward, and each other row links to itself with 1.
+    fn isolated_with(values: &[f64]) -> u64 {
+        let first: Vec<(u32, f64)> = (0..).zip(values.iter().copied()).collect();
+        let others = (1..values.len().max(2) as u32).map(|i| vec![(i, 1.0)]);
+        let rows = std::iter::once(first).chain(others).collect();
+        solve(&make::request(1, 1, 1, 1e-4, &rows)).unwrap().counts.isolated
+    }
+
+    /// The double of 1e-24, and the first one above it whose root is not the same.
+    const AT_FLOOR: f64 = 1e-24;
+    const ABOVE_FLOOR: f64 = f64::from_bits(AT_FLOOR.to_bits() + 2);
+
+    #[test]
+    fn a_root_that_is_not_above_the_floor_isolates_its_row() {
+        assert_eq!(AT_FLOOR.sqrt().to_bits(), 1e-12f64.to_bits());
+        let rows: [&[f64]; 11] = [
+            &[],
+            &[0.0],
+            &[-0.0, -0.0],
+            &[1.0, -1.0],
+            &[1e16, 1.0, -1e16],
+            &[AT_FLOOR],
+            &[AT_FLOOR.next_up()],
+            &[f64::from_bits(1)],
+            &[-1.0],
+            &[-f64::from_bits(1)],
+            &[-1e308, -1e308],
+        ];
+        for row in rows {
+            assert_eq!(isolated_with(row), 1, "{row:?}");
+        }
+    }
+
+    /// The root of 1e24 is 1e12, and so its inverse weight has the bits of 1e-12; an infinite root's is 0.
+    #[test]
+    fn a_root_above_the_floor_does_not_whatever_its_weight() {
+        assert_eq!(ABOVE_FLOOR.sqrt().to_bits(), 1e-12f64.to_bits() + 1);
+        assert_eq!((1.0 / 1e24f64.sqrt()).to_bits(), 1e-12f64.to_bits());
+        let rows: [&[f64]; 5] = [&[ABOVE_FLOOR], &[1.0], &[1e16, -1e16, 1.0], &[1e24], &[1e308, 1e308]];
+        for row in rows {
+            assert_eq!(isolated_with(row), 0, "{row:?}");
         }
     }
 

@@ -25,7 +25,7 @@ fn printed(args: &[&str], input: &[u8]) -> String {
 }
 
 #[test]
-fn documents_sample_gives_documents_rows_and_counts() {
+fn documents_sample_and_case_11_give_documents_rows_and_counts() {
     let sample = printed(&["make", "sample"], b"");
     assert_eq!(
         sample,
@@ -33,6 +33,16 @@ fn documents_sample_gives_documents_rows_and_counts() {
     );
     assert_eq!(printed(&["run"], sample.as_bytes()), "row=0000000000000000\n");
     assert_eq!(printed(&["counts"], sample.as_bytes()), "passes=2\nrefreshed=9\nzeroed=9\nisolated=0\n");
+    let case = printed(&["make", "case11"], b"");
+    assert_eq!(printed(&["counts"], case.as_bytes()), "passes=2\nrefreshed=8\nzeroed=8\nisolated=1\n");
+}
+
+/// Rows of 1 and -1, of nothing, of -1, and of 1: only the last is not isolated.
+#[test]
+fn rows_with_entries_are_isolated_too() {
+    let file = "d=1\nrounds=1\ndegree=1\nseed_std=3f1a36e2eb1c432d\nstarts=0,2,2,3,4\ncolumns=0,1,2,3\n\
+        values=3ff0000000000000,bff0000000000000,bff0000000000000,3ff0000000000000\n";
+    assert!(printed(&["counts"], file.as_bytes()).ends_with("\nisolated=3\n"));
 }
 
 #[test]

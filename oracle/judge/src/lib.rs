@@ -171,7 +171,7 @@ mod tests {
 
     #[test]
     fn copy_without_its_inserted_lines_is_document_000() {
-        without_inserted_lines_it_is_document_000(RECORDING_COPY, 7);
+        without_inserted_lines_it_is_document_000(RECORDING_COPY, 8);
     }
 
     #[cfg(feature = "clock")]

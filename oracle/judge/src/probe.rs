@@ -3,6 +3,7 @@
 //! The record is kept per thread because the solver's serial part stays on the thread that called it.
 
 use std::cell::RefCell;
+use std::ops::Div;
 
 use super::*;
 
@@ -15,6 +16,8 @@ pub struct Record {
     pub passes: u64,
     pub refreshed: u64,
     pub zeroed: u64,
+    /// The rows that took the inverse weight 1e-12 in place of 1 / root.
+    pub isolated: u64,
 }
 
 #[derive(Clone, Debug)]
@@ -48,6 +51,24 @@ fn wide_all<T: Float>(numbers: &[T]) -> Vec<f64> {
 
 pub(super) fn on_degrees<T: Float>(degrees: &[T]) {
     note(|record| record.degrees = wide_all(degrees));
+}
+
+/// The one that a row's inverse weight is 1 / root of, unless the root is not above 1e-12.
+pub(super) struct Dividend<T>(T);
+
+/// A row counts as isolated until its root divides: the weight alone would not tell, as 1 / 1e12 has the bits of 1e-12.
+pub(super) fn on_root<T: Float>(one: T) -> Dividend<T> {
+    note(|record| record.isolated += 1);
+    Dividend(one)
+}
+
+impl<T: Float> Div<T> for Dividend<T> {
+    type Output = T;
+
+    fn div(self, root: T) -> T {
+        note(|record| record.isolated -= 1);
+        self.0 / root
+    }
 }
 
 pub(super) fn on_v0<T: Float>(v0: &[T]) {
