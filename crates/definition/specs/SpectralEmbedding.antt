@@ -11,7 +11,7 @@ use Rattle.definition.specs.MatvecCombine.{Operator}
 use Rattle.definition.specs.Arrange.{arrangedBy}
 use Rattle.definition.specs.ChebyshevRayleighRitz.{Solving, solved, recordAt, rotated}
 
--- what a whole run counts: passes closed; columns refreshed and zeroed over all rounds; rows that took the inverse weight 1e-12
+-- what a whole run counts: passes closed; columns refreshed and zeroed over all rounds; rows whose root was not above 1e-12
 pub record Counts : Type 0 where
   pub passes : ℕ
   pub refreshed : ℕ

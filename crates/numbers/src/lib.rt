@@ -75,7 +75,7 @@ pub fn above_floor(root: f64) -> bool
     1e-12 < root
 }
 
-// The inverse weight of such a row; isolated rows get a vanishing one.
+// The inverse weight of a row with that root; isolated rows get a vanishing one.
 pub fn inverse_of(root: f64) -> f64
     ensures { λ r. ⌜ r ≡ inverseOf ieee64 root ⌝ }
 {

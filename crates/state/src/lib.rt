@@ -33,7 +33,7 @@ pub struct Progress {
     pub norm: f64,
 }
 
-// Passes closed; columns refreshed and zeroed over all rounds; rows that took the inverse weight 1e-12, 0 until the degrees close.
+// Passes closed; columns refreshed and zeroed over all rounds; rows whose root was not above 1e-12, 0 until the degrees close.
 #[repr(C)]
 pub struct Counts {
     pub passes: usize,
