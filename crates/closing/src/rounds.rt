@@ -17,12 +17,12 @@ use state::State;
 fn after_products(
     asked: Asked,
     progress: Progress,
-    matrix: [f64; 225],
+    matrix: &[f64; 225],
     order: [usize; 15],
 ) -> Progress
     requires { ⌜ AskedReady (askedIn asked) ⌝ }
     requires { ⌜ (progress .round < asked .rounds) × (getD order (asked .dims + 1) 0 < wide (askedIn asked)) ⌝ }
-    ensures { λ r. ⌜ progressIn r ≡ afterProducts ieee64 (askedIn asked) matrix order (progressIn progress) ⌝ }
+    ensures { λ r. ⌜ progressIn r ≡ afterProducts ieee64 (askedIn asked) (now (matrix .entry)) order (progressIn progress) ⌝ }
 {
     let dims = asked.dims;
     let rounds = asked.rounds;
@@ -61,21 +61,24 @@ pub fn close_products(state: State, partials: &[f64], ritz_record: &mut [f64]) -
 {
     let asked = state.asked;
     let p = state.progress;
+    let counts = state.counts;
     let k = asked.dims + 8;
     let products = reduced::stage_totals(asked, k * k, partials);
     let means = ritz::symmetrize(k, products);
     let eigen = ritz::jacobi_eigen(k, means);
     let matrix = eigen.matrix;
     let vectors = eigen.vectors;
-    let order = ritz::ritz_order(k, matrix);
-    let progress = after_products(asked, p, matrix, order);
+    let order = ritz::ritz_order(k, &matrix);
+    let progress = after_products(asked, p, &matrix, order);
     // The bound that the round's filter used, and not the one that it sets.
     record_round(k, p.round, p.bound, &matrix, order, ritz_record);
-    let mut next = state;
-    next.progress = progress;
-    next.totals = products;
-    next.matrix = matrix;
-    next.vectors = vectors;
-    next.order = order;
-    next
+    State {
+        asked,
+        progress,
+        counts,
+        totals: products,
+        matrix,
+        vectors,
+        order,
+    }
 }

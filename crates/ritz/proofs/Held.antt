@@ -117,12 +117,17 @@ module _ {E : Type 0} (none : E) (k : ℕ) where
   unfolding blockOf
   read-at l i c e = ap (λ (j : ℕ). getD l j none) e
 
-  -- what the list holds
-  pub held-at : (b : ℕ → ℕ → E) (l : List E) → k * k ≤ length l → Agree k (blockOf none k k (held b l)) b
+  -- what the list holds, if the matrix has none at the places behind the list's end
+  pub held-within : (b : ℕ → ℕ → E) (l : List E) → ((i c : ℕ) → i < k → c < k → length l ≤ place k k i c → b i c ≡ none) → Agree k (blockOf none k k (held b l)) b
   unfolding blockOf
-  held-at b l h i c p q =
+  held-within b l h i c p q =
       let u : place k k i c < k * k = place-below k k i c p q in
-      fill-in 0 (k * k) (numberAt k k b) l (place k k i c) none (omega arith) u (omega arith) ∙ number-at k k b i c q
+      split (place k k i c) (length l)
+      (λ v. fill-in 0 (k * k) (numberAt k k b) l (place k k i c) none (omega arith) u v ∙ number-at k k b i c q)
+      (λ v. List·getD-eq-default (held b l) none (omega (arith, fill-length 0 (k * k) (numberAt k k b) l)) ∙ sym (h i c p q v))
+
+  pub held-at : (b : ℕ → ℕ → E) (l : List E) → k * k ≤ length l → Agree k (blockOf none k k (held b l)) b
+  held-at b l h = held-within b l (λ i c p q v. absurd (omega (arith, place-below k k i c p q)))
 
   -- a list holds its own matrix
   pub held-self : (l : List E) → held (blockOf none k k l) l ≡ l
@@ -140,12 +145,12 @@ module _ {E : Type 0} (none : E) (k : ℕ) where
       (λ f. refl))
 
   -- F of a matrix, where the list holds the matrix b by now
-  pub held-then : (F : (ℕ → ℕ → E) → ℕ → ℕ → E) (b : ℕ → ℕ → E) (l : List E) {m : List E} → k * k ≤ length l
+  pub held-then : (F : (ℕ → ℕ → E) → ℕ → ℕ → E) (b : ℕ → ℕ → E) (l : List E) {m : List E} → Agree k (blockOf none k k (held b l)) b
       → ((x y : ℕ → ℕ → E) → Agree k x y → Agree k (F x) (F y)) → m ≡ held b l → held (F (blockOf none k k m)) m ≡ held (F b) l
   held-then F b l h g e =
       ap (λ (z : List E). held (F (blockOf none k k z)) z) e
       ∙ held-over (F (blockOf none k k (held b l))) b l
-      ∙ held-cong (F (blockOf none k k (held b l))) (F b) l (g (blockOf none k k (held b l)) b (held-at b l h))
+      ∙ held-cong (F (blockOf none k k (held b l))) (F b) l (g (blockOf none k k (held b l)) b h)
 
   -- a store
   pub held-set : (b : ℕ → ℕ → E) (l : List E) (i c : ℕ) (x : E) → i < k → c < k → set (held b l) (place k k i c) x ≡ held (put b i c x) l

@@ -1,9 +1,10 @@
 -- The matrices of 225 numbers that the functions take and hand back, as the definition's functions of row and column. Definitions only.
 use mathlib.Core.Bool.{cond}
+use mathlib.Core.Path.{_≡_}
 use mathlib.Core.List.{List}
 use Prim.Native.Nat.{ℕ, _*_, _<_, min}
 use lib.Dec.{eqb}
-use lib.ListN.{replicate}
+use lib.ListN.{length, replicate}
 use lib.Ieee.{Float}
 use Rattle.definition.specs.Arith.{Arith, ieee64}
 use Rattle.definition.specs.Memory.{blockOf, numberAt, fillRange}
@@ -30,6 +31,15 @@ turnIn cos sin = record { cos = cos; sin = sin }
 -- the same of a matrix and its vectors
 abbrev pub eigenIn : ℕ → Eigen → jacobi.Eigen ieee64
 eigenIn k s = record { matrix = matrixOf k (s .matrix); vectors = matrixOf k (s .vectors) }
+
+-- both, where they are lent as two lists
+abbrev pub eigenOf : List Float → List Float → Eigen
+eigenOf m v = record { matrix = m; vectors = v }
+
+-- both have their 225 numbers, as every value of the type does
+pub record Sized (s : Eigen) : Type 0 where
+  pub matrix : length (s .matrix) ≡ 225
+  pub vectors : length (s .vectors) ≡ 225
 
 abbrev pub holdingBoth : ℕ → jacobi.Eigen ieee64 → Eigen → Eigen
 holdingBoth k e s = record { matrix = holding k (e .matrix) (s .matrix); vectors = holding k (e .vectors) (s .vectors) }

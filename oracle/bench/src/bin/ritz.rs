@@ -1,7 +1,8 @@
 //! Jacobi on 63,000 matrices beside the same method in Rust.
 //!
-//! Times `ritz_jacobi_eigen` of the archive `libritz.a` beside cyclic Jacobi in Rust, on the same matrices and one thread, and compares
-//! the two bit for bit: a NaN equals any NaN.
+//! Times `ritz_jacobi_eigen` of the archive `libritz.a` beside cyclic Jacobi in Rust, on the same matrices and one thread, for k 9 to 15, and
+//! compares the two bit for bit: a NaN equals any NaN. The Rust takes the hardware's root; it is timed with ours (`libnumbers.a`) too, and what
+//! that adds is our root's share.
 
 use bench::{Random, same};
 use std::hint::black_box;
@@ -16,8 +17,18 @@ unsafe extern "C" {
     fn ritz_jacobi_eigen(k: usize, matrix: *mut [f64; LARGEST], vectors: *mut [f64; LARGEST]);
 }
 
-/// The same method, as document 000 has it: one matrix of k by k numbers, its vectors as the answer.
-fn jacobi(matrix: &mut [f64], k: usize) -> Vec<f64> {
+#[link(name = "numbers", kind = "static")]
+unsafe extern "C" {
+    fn numbers_root(x: f64) -> f64;
+}
+
+fn our_root(x: f64) -> f64 {
+    // SAFETY: the proved function takes every f64 and touches no memory.
+    unsafe { numbers_root(x) }
+}
+
+/// The same method, as document 000 has it, over a root: one matrix of k by k numbers, its vectors as the answer.
+fn jacobi(matrix: &mut [f64], k: usize, root: impl Fn(f64) -> f64) -> Vec<f64> {
     let mut vectors = vec![0.0; k * k];
     for p in 0..k {
         vectors[p * k + p] = 1.0;
@@ -32,9 +43,9 @@ fn jacobi(matrix: &mut [f64], k: usize) -> Vec<f64> {
                 let apq = matrix[p * k + q];
                 if apq != 0.0 {
                     let theta = (matrix[q * k + q] - matrix[p * k + p]) / (2.0 * apq);
-                    let root = (theta * theta + 1.0).sqrt();
-                    let tangent = if theta >= 0.0 { 1.0 / (theta + root) } else { 1.0 / (theta - root) };
-                    let cos = 1.0 / (tangent * tangent + 1.0).sqrt();
+                    let r = root(theta * theta + 1.0);
+                    let tangent = if theta >= 0.0 { 1.0 / (theta + r) } else { 1.0 / (theta - r) };
+                    let cos = 1.0 / root(tangent * tangent + 1.0);
                     let sin = tangent * cos;
                     turn_columns(matrix, k, p, q, cos, sin);
                     turn_rows(matrix, k, p, q, cos, sin);
@@ -112,35 +123,47 @@ fn compare(random: &mut Random, kind: u64, k: usize) -> bool {
     let mut theirs = given;
     let mut ours = given;
     let mut columns = [7.0; LARGEST];
-    let vectors = jacobi(&mut theirs[..k * k], k);
+    let vectors = jacobi(&mut theirs[..k * k], k, f64::sqrt);
     // SAFETY: k is from 9 to 15, and both arrays are this function's own.
     unsafe { ritz_jacobi_eigen(k, &mut ours, &mut columns) };
     (0..LARGEST).all(|i| same(ours[i], theirs[i]))
         && (0..LARGEST).all(|i| same(columns[i], if i < k * k { vectors[i] } else { 0.0 }))
 }
 
-fn time(random: &mut Random, k: usize, count: usize) -> (f64, f64) {
-    let given: Vec<[f64; LARGEST]> = (0..count).map(|_| matrix(random, 0, k)).collect();
-    let mut best = (f64::INFINITY, f64::INFINITY);
+/// The fewest microseconds a matrix, of seven goes over all of them.
+fn fastest(given: &[[f64; LARGEST]], solve: impl Fn(&mut [f64; LARGEST])) -> f64 {
+    let mut best = f64::INFINITY;
     for _ in 0..7 {
         let start = Instant::now();
-        for m in &given {
-            let mut ours = *m;
-            let mut columns = [0.0; LARGEST];
-            // SAFETY: as above.
-            unsafe { ritz_jacobi_eigen(k, &mut ours, &mut columns) };
-            black_box((&ours, &columns));
+        for m in given {
+            let mut own = *m;
+            solve(&mut own);
+            black_box(&own);
         }
-        best.0 = best.0.min(start.elapsed().as_secs_f64() / count as f64 * 1e6);
-        let start = Instant::now();
-        for m in &given {
-            let mut theirs = *m;
-            let vectors = jacobi(&mut theirs[..k * k], k);
-            black_box((&theirs, &vectors));
-        }
-        best.1 = best.1.min(start.elapsed().as_secs_f64() / count as f64 * 1e6);
+        best = best.min(start.elapsed().as_secs_f64() / given.len() as f64 * 1e6);
     }
     best
+}
+
+fn show_times(random: &mut Random, k: usize, count: usize) {
+    let given: Vec<[f64; LARGEST]> = (0..count).map(|_| matrix(random, 0, k)).collect();
+    let ours = fastest(&given, |m| {
+        let mut columns = [0.0; LARGEST];
+        // SAFETY: as above.
+        unsafe { ritz_jacobi_eigen(k, m, &mut columns) };
+        black_box(&columns);
+    });
+    let theirs = fastest(&given, |m| {
+        black_box(jacobi(&mut m[..k * k], k, f64::sqrt));
+    });
+    let with_our_root = fastest(&given, |m| {
+        black_box(jacobi(&mut m[..k * k], k, our_root));
+    });
+    println!(
+        "k={k} ritz={ours:.2}us rust={theirs:.2}us ratio={:.2} rust_with_our_root={with_our_root:.2}us root_share={:.0}%",
+        ours / theirs,
+        (with_our_root - theirs) / ours * 100.0
+    );
 }
 
 fn main() -> ExitCode {
@@ -153,9 +176,8 @@ fn main() -> ExitCode {
         equal += usize::from(compare(&mut random, i as u64 % 9, 9 + i / 9 % 7));
     }
     println!("matrices={compared} same={equal}");
-    for k in [10, 15] {
-        let (ours, theirs) = time(&mut random, k, timed);
-        println!("k={k} ritz={ours:.2}us rust={theirs:.2}us ratio={:.2}", ours / theirs);
+    for k in 9..=15 {
+        show_times(&mut random, k, timed);
     }
     if equal == compared { ExitCode::SUCCESS } else { ExitCode::FAILURE }
 }

@@ -12,7 +12,7 @@ add-k : tie.Need-add-k
 add-k c = search needs
 
 mul-stage-totals : tie.Need-mul-stage-totals
-mul-stage-totals c = omega (arith, square-most (c .before .before .before .before .before .args .state .asked .dims + 8) (omega arith))
+mul-stage-totals c = omega (arith, square-most (c .before .before .before .before .before .before .args .state .asked .dims + 8) (omega arith))
 
 stage-totals-requires : tie.Need-stage-totals-requires
 stage-totals-requires c κs = search needs
@@ -28,13 +28,13 @@ ritz-order-requires c κs = search needs
 
 after-products-requires : tie.Need-after-products-requires
 after-products-requires c κs =
-    let s = c .before .before .before .before .before .before .before .before .before .before .before in
-    (s .pre .0 .asked, (s .pre .0 .progress .round, order-below _ _ _ (c .ritz-order .result) _ (c .ritz-order .ensures) (omega arith)))
+    let s = c .before .before .before .before .before .before .before .before .before .before .before .before .before .before in
+    (s .pre .0 .asked, (s .pre .0 .progress .round, order-below _ _ _ (c .before .ritz-order .result) _ (c .before .ritz-order .ensures) (omega arith)))
 
 record-round-requires : tie.Need-record-round-requires
 record-round-requires c κs =
-    let s = c .before .before .before .before .before .before .before .before .before .before .before .before .before .before in
-    let o = c .before .before .before in
+    let s = c .before .before .before .before .before .before .before .before .before .before .before .before .before .before .before .before .before in
+    let o = c .before .before .before .before in
     let a = s .args .state .asked in (
       record { least = omega (arith, s .pre .0 .asked .dims-least); most = omega (arith, s .pre .0 .asked .dims-most) },
       (
@@ -48,10 +48,13 @@ same-length c = search needs
 
 returns : tie.Need-returns
 unfolding symmetricIn eigenMatrix eigenVectors orderIn afterRound
-returns c = (
-  rw (c .before .before .before .before .before .after-products .ensures, c .before .before .before .before .before .before .ritz-order .ensures, c .before .before .before .before .before .before .before .before .before .jacobi-eigen .ensures, c .before .before .before .before .before .before .before .before .before .before .symmetrize .ensures, c .before .before .before .before .before .before .before .before .before .before .before .stage-totals .ensures),
-  c .before .before .record-round .ensures,
-)
+returns c =
+    let a = c .before .before .before .before .before in
+    let o = a .before .before in
+    let j = o .before .before .before .before in (
+      rw (a .after-products .ensures, o .ritz-order .ensures, j .jacobi-eigen .ensures, j .before .symmetrize .ensures, j .before .before .stage-totals .ensures),
+      c .before .before .record-round .ensures,
+    )
 
 pub close-products-spec : {M : Type 1} → statement M
 close-products-spec =
