@@ -1,4 +1,5 @@
 -- Laws that the proofs cite.
 pub mod Order
 pub mod Room
+pub mod Round
 pub mod Stages

@@ -64,10 +64,9 @@ pub fn close_products(state: State, partials: &[f64], ritz_record: &mut [f64]) -
     let counts = state.counts;
     let k = asked.dims + 8;
     let products = reduced::stage_totals(asked, k * k, partials);
-    let means = ritz::symmetrize(k, products);
-    let eigen = ritz::jacobi_eigen(k, means);
-    let matrix = eigen.matrix;
-    let vectors = eigen.vectors;
+    let mut matrix = ritz::symmetrize(k, products);
+    let mut vectors = [0.0; 225];
+    ritz::jacobi_in_place(&mut matrix, &mut vectors, k);
     let order = ritz::ritz_order(k, &matrix);
     let progress = after_products(asked, p, &matrix, order);
     // The bound that the round's filter used, and not the one that it sets.

@@ -1,9 +1,11 @@
 -- `closing::rounds::close_products` meets its contract. Assumes nothing.
 use Prim.Native.Nat.{_+_}
-use Rattle.machine.specs.Closing.{symmetricIn, eigenMatrix, eigenVectors, orderIn, afterRound}
+use Rattle.definition.specs.Arith.{ieee64}
+use Rattle.machine.specs.Closing.{symmetricIn, eigenMatrix, eigenVectors, orderIn}
 use native.Mathlib.Omega.{arith}
 use Rattle.definition.proofs.Places.{square-most, row-end}
 use Rattle.closing.proofs.Order.{order-below}
+use Rattle.closing.proofs.Round.{round-made}
 use borrow.Author.Needs.{needs}
 use Rattle.closing.proofs.rounds.close_products.Statement.{statement}
 use Rattle.closing.proofs.rounds.close_products.Tie as tie
@@ -20,8 +22,8 @@ stage-totals-requires c κs = search needs
 symmetrize-requires : tie.Need-symmetrize-requires
 symmetrize-requires c κs = search needs
 
-jacobi-eigen-requires : tie.Need-jacobi-eigen-requires
-jacobi-eigen-requires c κs = search needs
+jacobi-in-place-requires : tie.Need-jacobi-in-place-requires
+jacobi-in-place-requires c κs = search needs
 
 ritz-order-requires : tie.Need-ritz-order-requires
 ritz-order-requires c κs = search needs
@@ -47,12 +49,13 @@ same-length : tie.Need-same-length
 same-length c = search needs
 
 returns : tie.Need-returns
-unfolding symmetricIn eigenMatrix eigenVectors orderIn afterRound
+unfolding symmetricIn eigenMatrix eigenVectors orderIn
 returns c =
     let a = c .before .before .before .before .before in
     let o = a .before .before in
-    let j = o .before .before .before .before in (
-      rw (a .after-products .ensures, o .ritz-order .ensures, j .jacobi-eigen .ensures, j .before .symmetrize .ensures, j .before .before .stage-totals .ensures),
+    let j = o .before .before in
+    let m = j .before .before .before in (
+      round-made ieee64 _ _ (m .before .stage-totals .ensures) (m .symmetrize .ensures) (j .jacobi-in-place .ensures .0) (j .jacobi-in-place .ensures .1) (o .ritz-order .ensures) (a .after-products .ensures),
       c .before .before .record-round .ensures,
     )
 
@@ -64,7 +67,7 @@ close-products-spec =
     mul-stage-totals
     stage-totals-requires
     symmetrize-requires
-    jacobi-eigen-requires
+    jacobi-in-place-requires
     ritz-order-requires
     after-products-requires
     record-round-requires
