@@ -64,7 +64,8 @@ pub fn close_products(state: State, partials: &[f64], ritz_record: &mut [f64]) -
     let counts = state.counts;
     let k = asked.dims + 8;
     let products = reduced::stage_totals(asked, k * k, partials);
-    let mut matrix = ritz::symmetrize(k, products);
+    let mut matrix = products;
+    ritz::symmetrize(&mut matrix, k);
     let mut vectors = [0.0; 225];
     ritz::jacobi_in_place(&mut matrix, &mut vectors, k);
     let order = ritz::ritz_order(k, &matrix);

@@ -1,8 +1,11 @@
 -- `closing::rounds::close_products` meets its contract. Assumes nothing.
+use mathlib.Core.Path.{ap, _∙_}
 use Prim.Native.Nat.{_+_}
+use lib.ListN.{length}
 use Rattle.definition.specs.Arith.{ieee64}
 use Rattle.machine.specs.Closing.{symmetricIn, eigenMatrix, eigenVectors, orderIn}
 use native.Mathlib.Omega.{arith}
+use Rattle.definition.proofs.Fill.{fill-length}
 use Rattle.definition.proofs.Places.{square-most, row-end}
 use Rattle.closing.proofs.Order.{order-below}
 use Rattle.closing.proofs.Round.{round-made}
@@ -23,19 +26,23 @@ symmetrize-requires : tie.Need-symmetrize-requires
 symmetrize-requires c κs = search needs
 
 jacobi-in-place-requires : tie.Need-jacobi-in-place-requires
-jacobi-in-place-requires c κs = search needs
+jacobi-in-place-requires c κs =
+    let m = c .before .before in
+    let t = m .before .before in
+    let a = t .before .before .before .before .before .before .before .pre .0 .asked in
+    (record { least = omega (arith, a .dims-least); most = omega (arith, a .dims-most) }, ap length (m .symmetrize .ensures) ∙ fill-length _ _ _ (t .stage-totals .result) ∙ t .stage-totals .ok .1 .0 .1)
 
 ritz-order-requires : tie.Need-ritz-order-requires
 ritz-order-requires c κs = search needs
 
 after-products-requires : tie.Need-after-products-requires
 after-products-requires c κs =
-    let s = c .before .before .before .before .before .before .before .before .before .before .before .before .before .before in
+    let s = c .before .before .before .before .before .before .before .before .before .before .before .before .before .before .before in
     (s .pre .0 .asked, (s .pre .0 .progress .round, order-below _ _ _ (c .before .ritz-order .result) _ (c .before .ritz-order .ensures) (omega arith)))
 
 record-round-requires : tie.Need-record-round-requires
 record-round-requires c κs =
-    let s = c .before .before .before .before .before .before .before .before .before .before .before .before .before .before .before .before .before in
+    let s = c .before .before .before .before .before .before .before .before .before .before .before .before .before .before .before .before .before .before in
     let o = c .before .before .before .before in
     let a = s .args .state .asked in (
       record { least = omega (arith, s .pre .0 .asked .dims-least); most = omega (arith, s .pre .0 .asked .dims-most) },
@@ -55,7 +62,7 @@ returns c =
     let o = a .before .before in
     let j = o .before .before in
     let m = j .before .before .before in (
-      round-made ieee64 _ _ (m .before .stage-totals .ensures) (m .symmetrize .ensures) (j .jacobi-in-place .ensures .0) (j .jacobi-in-place .ensures .1) (o .ritz-order .ensures) (a .after-products .ensures),
+      round-made ieee64 _ _ (m .before .before .stage-totals .ensures) (m .symmetrize .ensures) (j .jacobi-in-place .ensures .0) (j .jacobi-in-place .ensures .1) (o .ritz-order .ensures) (a .after-products .ensures),
       c .before .before .record-round .ensures,
     )
 
