@@ -43,7 +43,7 @@ fn subtract_block(
 pub fn subtract_stage(
     asked: Asked,
     progress: Progress,
-    totals: [f64; 225],
+    totals: &[f64; 225],
     h: usize,
     v0: &[f64],
     block0: &mut [f64],
@@ -56,15 +56,15 @@ pub fn subtract_stage(
     requires { ⌜ BlocksReady (askedIn asked) (now block0) (now block1) (now block2) ⌝ }
     ensures { λ _. ⌜ ((inverse : List Float) (edgeColumns : List ℕ) (edgeWeights partials output : List Float) →
         lentIn inverse (now (v0 .entry)) edgeColumns edgeWeights (now (block0 .exit)) (now (block1 .exit)) (now (block2 .exit)) partials output
-        ≡ subtractWork ieee64 (askedIn asked) (progressIn progress) totals h
+        ≡ subtractWork ieee64 (askedIn asked) (progressIn progress) (now (totals .entry)) h
         (lentIn inverse (now (v0 .entry)) edgeColumns edgeWeights (now (block0 .entry)) (now (block1 .entry)) (now (block2 .entry)) partials output)) ⌝ }
 {
     let current = progress.current;
     let column = progress.column;
     match current {
-        0 => subtract_block(asked, column, &totals, h, v0, block0),
-        1 => subtract_block(asked, column, &totals, h, v0, block1),
-        _ => subtract_block(asked, column, &totals, h, v0, block2),
+        0 => subtract_block(asked, column, totals, h, v0, block0),
+        1 => subtract_block(asked, column, totals, h, v0, block1),
+        _ => subtract_block(asked, column, totals, h, v0, block2),
     }
 }
 

@@ -7,13 +7,20 @@ ghost use Rattle.machine.specs.Ready.{Ready};
 ghost use Rattle.machine.specs.Work.{work};
 ghost use Rattle.machine.specs.Calls.{chunkCall};
 ghost use Rattle.state.specs.Said.{stateIn, listsIn, lentIn, lentAll, outcomeIn};
+ghost use Rattle.stages.specs.Parts.{partsIn};
 use columns::marks::set_mark;
 use state::Answer;
+use state::Asked;
+use state::Progress;
 use state::State;
 
-// A chunk without its tests, for a caller that has shown what they ask.
-pub fn work_chunk(
-    state: State,
+// A chunk without its tests, for a caller that has shown what they ask: of the state the parts that a chunk's work reads.
+pub fn work_chunk<'a>(
+    asked: Asked,
+    progress: Progress,
+    totals: &'a [f64; 225],
+    vectors: &'a [f64; 225],
+    order: &'a [usize; 15],
     h: usize,
     starts: &[u64],
     columns: &[u32],
@@ -29,19 +36,24 @@ pub fn work_chunk(
     marks: &mut [u8],
     output: &mut [f64],
 )
-    requires { ⌜ Ready ieee64 (stateIn state) h (listsIn (now starts) (now columns) (now values))
+    requires { ⌜ Ready ieee64 (partsIn asked progress (now totals) (now vectors) (now order)) h (listsIn (now starts) (now columns) (now values))
         (lentIn (now inverse) (now v0) (now «edge_columns») (now «edge_weights») (now block0) (now block1) (now block2) (now partials) (now output)) ⌝ }
     requires { ⌜ h < length (now marks) ⌝ }
     ensures { λ _. ⌜ lentIn (now (inverse .exit)) (now (v0 .exit)) (now («edge_columns» .exit)) (now («edge_weights» .exit))
         (now (block0 .exit)) (now (block1 .exit)) (now (block2 .exit)) (now (partials .exit)) (now (output .exit))
-        ≡ work ieee64 (stateIn state) (listsIn (now (starts .entry)) (now (columns .entry)) (now (values .entry))) h
+        ≡ work ieee64 (partsIn asked progress (now (totals .entry)) (now (vectors .entry)) (now (order .entry)))
+        (listsIn (now (starts .entry)) (now (columns .entry)) (now (values .entry))) h
         (lentIn (now (inverse .entry)) (now (v0 .entry)) (now («edge_columns» .entry)) (now («edge_weights» .entry))
         (now (block0 .entry)) (now (block1 .entry)) (now (block2 .entry)) (now (partials .entry)) (now (output .entry))) ⌝ }
     ensures { λ _. ⌜ now (marks .exit) ≡ set (now (marks .entry)) h 1 ⌝ }
 {
     set_mark(marks, h);
     stages::chunk_work(
-        state,
+        asked,
+        progress,
+        totals,
+        vectors,
+        order,
         h,
         starts,
         columns,
@@ -110,8 +122,14 @@ pub fn chunk(
     if verdict.number != 0 {
         return Answer { verdict, state };
     }
+    let asked = state.asked;
+    let progress = state.progress;
     work_chunk(
-        state,
+        asked,
+        progress,
+        &state.totals,
+        &state.vectors,
+        &state.order,
         number,
         starts,
         columns,

@@ -53,11 +53,16 @@ fn all_chunks(
     ensures { λ _. ⌜ now (marks .exit) ≡ fillRange 0 (chunkCount (askedIn (state .asked))) (λ h. 1) (now (marks .entry)) ⌝ }
 {
     let asked = state.asked;
+    let progress = state.progress;
     let chunks = input::chunk_count(asked.rows);
     let mut h = 0;
     while h < chunks {
         run::work_chunk(
-            state,
+            asked,
+            progress,
+            &state.totals,
+            &state.vectors,
+            &state.order,
             h,
             starts,
             columns,

@@ -2,3 +2,4 @@
 pub mod Written
 pub mod Entries
 pub mod Arms
+pub mod Parts

@@ -61,12 +61,12 @@ pub fn squares_stage(asked: Asked, h: usize, output: &[f64], partials: &mut [f64
 }
 
 // The means of the columns subtracted: `totals` has the columns' sums.
-pub fn centre_stage(asked: Asked, totals: [f64; 225], h: usize, output: &mut [f64])
+pub fn centre_stage(asked: Asked, totals: &[f64; 225], h: usize, output: &mut [f64])
     requires { ⌜ AskedReady (askedIn asked) ⌝ }
     requires { ⌜ asked .rows * asked .dims ≤ length (now output) ⌝ }
     ensures { λ _. ⌜ ((inverse v0 : List Float) (edgeColumns : List ℕ) (edgeWeights block0 block1 block2 partials : List Float) →
         lentIn inverse v0 edgeColumns edgeWeights block0 block1 block2 partials (now (output .exit))
-        ≡ centreWork ieee64 (askedIn asked) totals h
+        ≡ centreWork ieee64 (askedIn asked) (now (totals .entry)) h
         (lentIn inverse v0 edgeColumns edgeWeights block0 block1 block2 partials (now (output .entry)))) ⌝ }
 {
     let n = asked.rows;
@@ -74,7 +74,7 @@ pub fn centre_stage(asked: Asked, totals: [f64; 225], h: usize, output: &mut [f6
     columns::output::centre_chunk(
         n,
         d,
-        &totals,
+        totals,
         input::first_row(n, h),
         input::end_row(n, h),
         output,
@@ -82,12 +82,12 @@ pub fn centre_stage(asked: Asked, totals: [f64; 225], h: usize, output: &mut [f6
 }
 
 // The columns multiplied by their scales, which stand in `totals`.
-pub fn scale_stage(asked: Asked, totals: [f64; 225], h: usize, output: &mut [f64])
+pub fn scale_stage(asked: Asked, totals: &[f64; 225], h: usize, output: &mut [f64])
     requires { ⌜ AskedReady (askedIn asked) ⌝ }
     requires { ⌜ asked .rows * asked .dims ≤ length (now output) ⌝ }
     ensures { λ _. ⌜ ((inverse v0 : List Float) (edgeColumns : List ℕ) (edgeWeights block0 block1 block2 partials : List Float) →
         lentIn inverse v0 edgeColumns edgeWeights block0 block1 block2 partials (now (output .exit))
-        ≡ scaleWork ieee64 (askedIn asked) totals h
+        ≡ scaleWork ieee64 (askedIn asked) (now (totals .entry)) h
         (lentIn inverse v0 edgeColumns edgeWeights block0 block1 block2 partials (now (output .entry)))) ⌝ }
 {
     let n = asked.rows;
@@ -95,7 +95,7 @@ pub fn scale_stage(asked: Asked, totals: [f64; 225], h: usize, output: &mut [f64
     columns::output::scale_chunk(
         n,
         d,
-        &totals,
+        totals,
         input::first_row(n, h),
         input::end_row(n, h),
         output,

@@ -4,17 +4,22 @@ use mathlib.Core.Logic.{⊎-elim, inl, inr}
 use Prim.Native.Nat.{ℕ}
 use borrow.Author.Needs.{needs}
 use Rattle.definition.specs.Arith.{ieee64}
-use Rattle.machine.specs.State.{stageOf, Lists, Lent}
+use Rattle.machine.specs.State.{stageOf, Lists, State, Lent}
 use Rattle.machine.specs.Ranges.{readsStarts, readsEdges}
 use Rattle.machine.specs.Work.{workBy, work}
-use Rattle.state.specs.Said.{stateIn, listsIn, lentIn}
+use Rattle.state.specs.Said.{listsIn, lentIn}
+use Rattle.stages.specs.Parts.{partsIn}
 use Rattle.stages.proofs.Arms.{blocks-ready, edges-ready, none-of, arm, idle-arm}
 use Rattle.stages.proofs.chunk_work.Statement.{statement}
 use Rattle.stages.proofs.chunk_work.Tie as tie
 
 -- the function's entry, from the place before the choice
-abbrev entered : tie.After-order → tie.Start
-entered t = t .before .before .before .before .before .before .before .before .before .before .before .before .before .before .before .before .before
+abbrev entered : tie.After-slice-known9 → tie.Start
+entered t = t .before .before .before .before .before .before .before .before .before .before .before .before
+
+-- the parts of the state as they came
+abbrev parts : tie.Start → State ieee64
+parts s = let a = s .args in partsIn (a .asked) (a .progress) (a .totals .now) (a .vectors .now) (a .order .now)
 
 -- the graph and the lent memory as they came
 abbrev graph : tie.Start → Lists ieee64
@@ -27,10 +32,10 @@ lent s =
     (a .output .now)
 
 -- the work of the stage of number k is what is asked, where that is the state's
-at-stage : (s : tie.Start) (k : ℕ) {after : Lent ieee64} → s .args .state .progress .stage ≡ k
-    → after ≡ workBy ieee64 (stageOf k) (stateIn (s .args .state)) (graph s) (s .args .h) (lent s)
-    → after ≡ work ieee64 (stateIn (s .args .state)) (graph s) (s .args .h) (lent s)
-at-stage s k p w = arm (stateIn (s .args .state)) (graph s) (s .args .h) (lent s) k p w
+at-stage : (s : tie.Start) (k : ℕ) {after : Lent ieee64} → s .args .progress .stage ≡ k
+    → after ≡ workBy ieee64 (stageOf k) (parts s) (graph s) (s .args .h) (lent s)
+    → after ≡ work ieee64 (parts s) (graph s) (s .args .h) (lent s)
+at-stage s k p w = arm (parts s) (graph s) (s .args .h) (lent s) k p w
 
 degrees-stage-requires : tie.Need-degrees-stage-requires
 degrees-stage-requires c κs =
@@ -95,7 +100,7 @@ products-stage-requires c κs =
 
 rotate-stage-requires : tie.Need-rotate-stage-requires
 rotate-stage-requires c κs =
-    let s = entered (c .before .before .before .before .before .before .before .before) in
+    let s = entered (c .before .before .before .before .before .before) in
     (s .pre .state .asked, (s .pre .state .order, ((s .pre .lent .inverse, s .pre .lent .output), blocks-ready (s .pre .lent))))
 
 sums-stage-requires : tie.Need-sums-stage-requires
@@ -340,7 +345,7 @@ same-length-44 c = search needs
 
 returns-12 : tie.Need-returns-12
 returns-12 c =
-    let t = c .before .before .before .before .before .before .before .before .before .before in
+    let t = c .before .before .before .before .before .before .before .before in
     let s = entered (t .before) in
     let m = lent s in
     at-stage s 15 (t .match .keys12)
@@ -400,8 +405,8 @@ returns-17 : tie.Need-returns-17
 returns-17 c =
     let s = entered (c .before) in
     let none = c .match .rest in
-    idle-arm (stateIn (s .args .state)) (graph s) (s .args .h) (lent s)
-    (none-of (s .args .state .progress .stage)
+    idle-arm (parts s) (graph s) (s .args .h) (lent s)
+    (none-of (s .args .progress .stage)
     (none .0 .0 .0 .0 .0 .0 .0 .0 .0 .0 .0 .0 .0 .0 .0 .1)
     (none .0 .0 .0 .0 .0 .0 .0 .0 .0 .0 .0 .0 .0 .0 .1)
     (none .0 .0 .0 .0 .0 .0 .0 .0 .0 .0 .0 .0 .0 .1)

@@ -20,33 +20,33 @@ same-length c = search needs
 
 returns : tie.Need-returns
 returns c =
-    let s = c .before .before .before .before .before .before .before .before .before .before in
+    let s = c .before .before .before .before .before .before .before .before .before in
     λ inverse columns weights partials output.
     subtract-lent (askedIn (s .args .asked)) (progressIn (s .args .progress)) (s .args .h)
     (lentIn inverse (s .args .v0 .now) columns weights (s .args .block0 .now) (s .args .block1 .now) (s .args .block2 .now) partials output)
-    0 (s .args .t3) (c .before .before .before .before .before .match .keys1) (c .before .before .subtract-block .ensures)
+    0 (s .args .totals .now) (c .before .before .before .before .match .keys1) (c .before .before .subtract-block .ensures)
 
 same-length-2 : tie.Need-same-length-2
 same-length-2 c = search needs
 
 returns-2 : tie.Need-returns-2
 returns-2 c =
-    let s = c .before .before .before .before .before .before .before .before .before .before in
+    let s = c .before .before .before .before .before .before .before .before .before in
     λ inverse columns weights partials output.
     subtract-lent (askedIn (s .args .asked)) (progressIn (s .args .progress)) (s .args .h)
     (lentIn inverse (s .args .v0 .now) columns weights (s .args .block0 .now) (s .args .block1 .now) (s .args .block2 .now) partials output)
-    1 (s .args .t3) (c .before .before .before .before .before .match .keys2) (c .before .before .subtract-block2 .ensures)
+    1 (s .args .totals .now) (c .before .before .before .before .match .keys2) (c .before .before .subtract-block2 .ensures)
 
 same-length-3 : tie.Need-same-length-3
 same-length-3 c = search needs
 
 returns-3 : tie.Need-returns-3
 returns-3 c =
-    let s = c .before .before .before .before .before .before .before .before .before .before in
+    let s = c .before .before .before .before .before .before .before .before .before in
     λ inverse columns weights partials output.
     subtract-lent (askedIn (s .args .asked)) (progressIn (s .args .progress)) (s .args .h)
     (lentIn inverse (s .args .v0 .now) columns weights (s .args .block0 .now) (s .args .block1 .now) (s .args .block2 .now) partials output)
-    2 (s .args .t3) (omega (arith, c .before .before .before .before .before .match .rest, s .pre .1 .0 .current)) (c .before .before .subtract-block3 .ensures)
+    2 (s .args .totals .now) (omega (arith, c .before .before .before .before .match .rest, s .pre .1 .0 .current)) (c .before .before .subtract-block3 .ensures)
 
 pub subtract-stage-spec : {M : Type 1} → statement M
 subtract-stage-spec =

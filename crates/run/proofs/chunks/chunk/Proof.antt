@@ -1,5 +1,5 @@
 -- `chunks::chunk` meets its contract: a refused chunk leaves all as it is, an accepted one has what `work_chunk` asks. Assumes nothing.
-use mathlib.Core.Path.{_≡_, refl}
+use mathlib.Core.Path.{_≡_, refl, _∙_}
 use borrow.Author.Needs.{needs}
 use Rattle.definition.specs.Arith.{ieee64}
 use Rattle.input.specs.Said.{verdictOf}
@@ -7,6 +7,7 @@ use Rattle.machine.specs.State.{Lists, Lent}
 use Rattle.machine.specs.Ranges.{testChunk}
 use Rattle.state.specs.Said.{stateIn, listsIn, lentAll}
 use Rattle.ready.proofs.Ready.{chunk-ready, ready-beside}
+use Rattle.stages.proofs.Parts.{work-parts, parts-ready}
 use Rattle.run.proofs.Paths.{zero-passes, chunk-refused, chunk-taken}
 use Rattle.run.proofs.chunks.chunk.Statement.{statement}
 use Rattle.run.proofs.chunks.chunk.Tie as tie
@@ -27,7 +28,7 @@ lent s =
 
 -- what the code found is the machine's test
 found : (t : tie.After-test-chunk) → let s = entered t in
-    verdictOf (t .test-chunk .result) ≡ testChunk ieee64 (stateIn (s .args .state)) (s .args .number) (graph s) (lent s) (s .args .marks .now)
+    verdictOf (t .test-chunk .result) ≡ testChunk ieee64 (stateIn (s .args .t1)) (s .args .number) (graph s) (lent s) (s .args .marks .now)
 found t = t .test-chunk .ensures (lent (entered t)) refl refl
 
 test-chunk-requires : tie.Need-test-chunk-requires
@@ -43,15 +44,15 @@ returns : tie.Need-returns
 returns c =
     let t = c .before .before in
     let s = entered t in
-    chunk-refused ieee64 (stateIn (s .args .state)) (s .args .number) (graph s) (lent s) (s .args .marks .now) (found t) (c .if1 .taken)
+    chunk-refused ieee64 (stateIn (s .args .t1)) (s .args .number) (graph s) (lent s) (s .args .marks .now) (found t) (c .if1 .taken)
 
 work-chunk-requires : tie.Need-work-chunk-requires
 work-chunk-requires c κs =
-    let e = c .before .before .before .before .before .before .before .before .before .before in
+    let e = c .before .before .before .before .before .before .before .before .before .before .before .before .before .before .before .before in
     let t = e .before .before in
     let s = entered t in
-    let R = chunk-ready ieee64 (stateIn (s .args .state)) (s .args .number) (graph s) (lent s) (s .args .marks .now) (zero-passes (found t) (e .if1 .left)) in
-    (ready-beside ieee64 (stateIn (s .args .state)) (s .args .number) (graph s) (s .args .ritz-record .now) _ (R .0), R .4)
+    let R = chunk-ready ieee64 (stateIn (s .args .t1)) (s .args .number) (graph s) (lent s) (s .args .marks .now) (zero-passes (found t) (e .if1 .left)) in
+    (parts-ready ieee64 (ready-beside ieee64 (stateIn (s .args .t1)) (s .args .number) (graph s) (s .args .ritz-record .now) _ (R .0)), R .4)
 
 same-length-3 : tie.Need-same-length-3
 same-length-3 c = search needs
@@ -86,11 +87,11 @@ same-length-12 c = search needs
 returns-2 : tie.Need-returns-2
 returns-2 c =
     let k = c .before .before .before .before .before .before .before .before .before .before .before .before .before .before .before .before .before .before .before .before in
-    let e = k .before .before .before .before .before .before .before .before .before .before .before in
+    let e = k .before .before .before .before .before .before .before .before .before .before .before .before .before .before .before .before .before in
     let t = e .before .before in
     let s = entered t in
-    chunk-taken ieee64 (stateIn (s .args .state)) (s .args .number) (graph s) (lent s) (s .args .marks .now) (found t) (e .if1 .left)
-    (k .work-chunk .ensures .0) (k .work-chunk .ensures .1)
+    chunk-taken ieee64 (stateIn (s .args .t1)) (s .args .number) (graph s) (lent s) (s .args .marks .now) (found t) (e .if1 .left)
+    (k .work-chunk .ensures .0 ∙ work-parts ieee64 (stateIn (s .args .t1)) (graph s) (s .args .number) _) (k .work-chunk .ensures .1)
 
 pub chunk-spec : {M : Type 1} → statement M
 chunk-spec =

@@ -6,6 +6,8 @@
 //!
 //! Words:
 //! --quick           graphs of at most 10,000 rows
+//! --seconds N       goes on with a graph for so long, up to 1,000 runs, where it is 3 seconds (1.5 with --quick) and 15 runs: on a machine
+//!                   that others use too, the least of many runs tells more
 //! --threads N       so many threads on both sides, where several are compared; 2 if not said
 //! --cpu             times on one thread are its processor time, for a machine that does other work besides
 //! --stages ROWS D   one graph, stage by stage, and nothing else
@@ -19,6 +21,7 @@ mod sides;
 mod tables;
 
 use graph::{Graph, Order, neighbours};
+use sides::Limit;
 use std::process::ExitCode;
 use tables::Tables;
 
@@ -26,7 +29,7 @@ use tables::Tables;
 struct Plan {
     sizes: &'static [usize],
     dims: &'static [usize],
-    /// Runs go on until they took this many seconds together or there were MOST_RUNS, and there are at least LEAST_RUNS.
+    /// For how long a graph is run again, where nobody said.
     seconds: f64,
     by_stage: &'static [(usize, usize)],
     orders_at: usize,
@@ -53,6 +56,7 @@ const STACK_AT: usize = 4_098;
 
 struct Words {
     plan: &'static Plan,
+    seconds: Option<usize>,
     threads: usize,
     /// Rows and D, where only that graph is asked for.
     stages: Option<(usize, usize)>,
@@ -60,7 +64,7 @@ struct Words {
 }
 
 fn words() -> Option<Words> {
-    let mut read = Words { plan: &WHOLE, threads: 2, stages: None, once: None };
+    let mut read = Words { plan: &WHOLE, seconds: None, threads: 2, stages: None, once: None };
     let mut words = std::env::args().skip(1);
     while let Some(word) = words.next() {
         let mut number =
@@ -68,6 +72,7 @@ fn words() -> Option<Words> {
         match word.as_str() {
             "--quick" => read.plan = &QUICK,
             "--cpu" => judge::clock::by_processor(),
+            "--seconds" => read.seconds = Some(number(1, 3_600)?),
             "--threads" => read.threads = number(1, 256)?,
             "--stages" => read.stages = Some((number(1_000, 1 << 20)?, number(1, 7)?)),
             "--once" => read.once = Some((number(1_000, 1 << 20)?, number(1, 7)?)),
@@ -94,38 +99,42 @@ fn run_once(rows: usize, d: usize) -> Result<bool, String> {
 }
 
 fn run(words: &Words) -> Result<bool, String> {
-    let Words { plan, threads, stages, once } = *words;
+    let Words { plan, seconds, threads, stages, once } = *words;
     if let Some((rows, d)) = once {
         return run_once(rows, d);
     }
-    let mut tables = Tables::new();
+    let limit = match seconds {
+        Some(seconds) => Limit { seconds: seconds as f64, most: 1_000 },
+        None => Limit { seconds: plan.seconds, most: Limit::MOST },
+    };
+    let mut tables = Tables::new(limit);
     if let Some((rows, d)) = stages {
-        tables.stages(&sides::by_stage(&graph_of(rows, d, Order::Rising), plan.seconds)?);
+        tables.stages(&sides::by_stage(&graph_of(rows, d, Order::Rising), limit)?);
         return Ok(tables.same());
     }
-    wholes(plan, threads, &mut tables)?;
+    wholes(plan, limit, threads, &mut tables)?;
     tables.memory(sides::stack(&neighbours(STACK_AT, Order::Shuffled)), STACK_AT);
     for &(rows, d) in plan.by_stage {
-        tables.stages(&sides::by_stage(&graph_of(rows, d, Order::Rising), plan.seconds)?);
+        tables.stages(&sides::by_stage(&graph_of(rows, d, Order::Rising), limit)?);
     }
-    by_order(plan, &mut tables)?;
+    by_order(plan, limit, &mut tables)?;
     Ok(tables.same())
 }
 
-fn wholes(plan: &Plan, threads: usize, tables: &mut Tables) -> Result<(), String> {
+fn wholes(plan: &Plan, limit: Limit, threads: usize, tables: &mut Tables) -> Result<(), String> {
     tables.wholes_begin(threads);
     for &rows in plan.sizes {
         let mut graph = neighbours(rows, Order::Rising);
         for &d in plan.dims {
             graph.request.d = d;
-            tables.whole(sides::whole(&graph, threads, plan.seconds)?);
+            tables.whole(sides::whole(&graph, threads, limit)?);
         }
     }
     Ok(())
 }
 
 /// The edges stage alone depends on the order of a row's columns, so the rest is kept short.
-fn by_order(plan: &Plan, tables: &mut Tables) -> Result<(), String> {
+fn by_order(plan: &Plan, limit: Limit, tables: &mut Tables) -> Result<(), String> {
     tables.orders_begin(plan.orders_at);
     for (name, order) in
         [("rising", Order::Rising), ("symmetrized", Order::Symmetrized), ("shuffled", Order::Shuffled)]
@@ -133,7 +142,7 @@ fn by_order(plan: &Plan, tables: &mut Tables) -> Result<(), String> {
         let mut graph = graph_of(plan.orders_at, 2, order);
         graph.request.rounds = 1;
         graph.request.degree = 1;
-        tables.order(name, &sides::by_stage(&graph, plan.seconds)?);
+        tables.order(name, &sides::by_stage(&graph, limit)?);
     }
     Ok(())
 }
@@ -141,7 +150,7 @@ fn by_order(plan: &Plan, tables: &mut Tables) -> Result<(), String> {
 fn main() -> ExitCode {
     let Some(words) = words() else {
         eprintln!(
-            "words: [--quick] [--threads N] [--cpu] [--stages ROWS D] [--once ROWS D]; ROWS is even, 1,000 to 1,048,576, D 1 to 7"
+            "words: [--quick] [--seconds N] [--threads N] [--cpu] [--stages ROWS D] [--once ROWS D]; ROWS is even, 1,000 to 1,048,576, D 1 to 7"
         );
         return ExitCode::from(2);
     };

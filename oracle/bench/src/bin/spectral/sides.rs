@@ -8,8 +8,22 @@ use bench::same;
 use judge::clock::{self, Laps};
 use std::time::{Duration, Instant};
 
-pub const LEAST_RUNS: usize = 2;
-pub const MOST_RUNS: usize = 15;
+/// How often a graph is run: until its runs took so many seconds together or there were the most, and the least in any case.
+#[derive(Clone, Copy)]
+pub struct Limit {
+    pub seconds: f64,
+    pub most: usize,
+}
+
+impl Limit {
+    pub const LEAST: usize = 2;
+    /// The most, where nobody asked for longer.
+    pub const MOST: usize = 15;
+
+    fn goes_on(self, runs: usize, begun: Instant) -> bool {
+        runs < Self::LEAST || runs < self.most && begun.elapsed().as_secs_f64() < self.seconds
+    }
+}
 
 fn params(graph: &Graph) -> Params {
     let asked = &graph.request;
@@ -78,7 +92,7 @@ pub struct Whole {
     pub lent: usize,
 }
 
-pub fn whole(graph: &Graph, threads: usize, limit: f64) -> Result<Whole, String> {
+pub fn whole(graph: &Graph, threads: usize, limit: Limit) -> Result<Whole, String> {
     let d = graph.request.d;
     let mut seen = Whole {
         rows: graph.rows(),
@@ -92,7 +106,7 @@ pub fn whole(graph: &Graph, threads: usize, limit: f64) -> Result<Whole, String>
         lent: Memory::new(d, graph).bytes(),
     };
     let begun = Instant::now();
-    while seen.runs < LEAST_RUNS || seen.runs < MOST_RUNS && begun.elapsed().as_secs_f64() < limit {
+    while limit.goes_on(seen.runs, begun) {
         // What the Rust allocates is counted in the first turn, which costs it a little there.
         let (alone, peak) = rust_counted(graph, 1, seen.runs == 0)?;
         let (many, rayon) = (on_threads(graph, threads)?, rust(graph, threads)?);
@@ -190,14 +204,14 @@ fn same_values(record: &[f64], d: usize, ritz: &[Vec<f64>]) -> bool {
     rounds.len() == ritz.len() && rounds.zip(ritz).all(|(round, values)| same_seeds(&round[1..], values))
 }
 
-pub fn by_stage(graph: &Graph, limit: f64) -> Result<ByStage, String> {
+pub fn by_stage(graph: &Graph, limit: Limit) -> Result<ByStage, String> {
     let d = graph.request.d;
     let wanted = rust(graph, 1)?.0;
     let (rows, entries) = (graph.rows(), graph.entries());
     let mut seen = ByStage { rows, d, entries, stages: Vec::new(), runs: 0, same: true, promised: true };
     let (mut ours, mut theirs) = (Vec::new(), Vec::new());
     let begun = Instant::now();
-    while seen.runs < LEAST_RUNS || seen.runs < MOST_RUNS && begun.elapsed().as_secs_f64() < limit {
+    while limit.goes_on(seen.runs, begun) {
         let mut memory = Memory::new(d, graph);
         let lists = Lists::new(graph, &mut memory);
         keep_least(&mut ours, judge::on_threads(1, || held::timed(d, params(graph), rows, &lists))?);

@@ -1,6 +1,6 @@
 //! What the benchmark prints.
 
-use crate::sides::{ByStage, LEAST_RUNS, MOST_RUNS, Whole};
+use crate::sides::{ByStage, Limit, Whole};
 
 pub struct Tables {
     /// The last size of each D, for how time grows from it to the next.
@@ -27,9 +27,11 @@ fn note(same: bool, promised: bool) -> &'static str {
 }
 
 impl Tables {
-    pub fn new() -> Tables {
+    pub fn new(limit: Limit) -> Tables {
         println!(
-            "5 rounds of degree 20, 30 entries a row, columns rising; least of {LEAST_RUNS} to {MOST_RUNS} runs, the sides in turns"
+            "5 rounds of degree 20, 30 entries a row, columns rising; least of {} to {} runs, the sides in turns",
+            Limit::LEAST,
+            limit.most
         );
         Tables { before: Vec::new(), all: Vec::new(), same: true }
     }
