@@ -6,8 +6,8 @@
  * Every function of the library is proved to meet its contract (crates/threshcinch; the definitions that it cites are document 01's, in
  * crates/definition and crates/machine). None asks for anything first, except what C itself leaves to the caller: a list's address and
  * length must be those of memory that is there, aligned for its elements, and a list that is written must overlap no other list of the call;
- * and the thread must have the stack that a call takes: about 55,000 bytes (closing 54,700, reading a run file 51,300, writing one 50,700, the
- * one call 43,600, a chunk 41,200, opening 18,000, writing an answer 9,800; bindings/c/stack.c measures them).
+ * and the thread must have the stack that a call takes: about 52,000 bytes (reading a run file 51,300, writing one 50,700, closing 40,500, the
+ * one call 35,000, a chunk 33,800, opening 18,000, writing an answer 9,800; bindings/c/stack.c measures them).
  *
  * Call the short forms: threshcinch_embed, threshcinch_run_open, _run_chunk, _run_close, _run_accepted and _run_owed, threshcinch_file_write,
  * _file_read and threshcinch_answer_write, and threshcinch_set_seed_std. They are a few lines around the library's own functions, the long
@@ -100,7 +100,7 @@ extern "C" {
  * that is 0 the second one too: one of them rises whenever a program that was linked before would go wrong, so that such a program does not
  * find the new one. */
 
-#define THRESHCINCH_VERSION "0.3.1"
+#define THRESHCINCH_VERSION "0.3.2"
 
 THRESHCINCH_API const char *const threshcinch_version;
 
