@@ -1,7 +1,7 @@
 -- The chunks of a stage, one after the other. Assumes nothing.
 use mathlib.Core.Path.{_≡_, refl, sym, ap, _∙_, subst}
 use mathlib.Core.List.{List}
-use Prim.Native.Nat.{ℕ, zero, suc, _+_, _≤_, _<_}
+use Prim.Native.Nat.{ℕ, suc, _+_, _≤_, _<_}
 use native.Mathlib.Omega.{arith}
 use lib.ListN.{length, set}
 use Rattle.definition.specs.Arith.{ieee64}
@@ -11,14 +11,7 @@ use Rattle.held.specs.Calls.{whole}
 use Rattle.machine.specs.State.{chunkCount, Lists, State, Lent}
 use Rattle.machine.specs.Ready.{Ready}
 use Rattle.machine.specs.Work.{work}
-use Rattle.stages.proofs.Parts.{partsOf, work-parts}
 use Rattle.spectral.specs.Said.{doneUp}
-
--- done by the parts of the state that chunks read is done
-pub done-parts : (s : State ieee64) (g : Lists ieee64) (h : ℕ) (m : Lent ieee64) → doneUp (partsOf ieee64 s) g h m ≡ doneUp s g h m
-unfolding whole
-done-parts s g zero m = refl
-done-parts s g (suc h) m = ap (work ieee64 (partsOf ieee64 s) g h) (done-parts s g h m) ∙ work-parts ieee64 s g h (doneUp s g h m)
 
 module _ (s : State ieee64) (g : Lists ieee64) (m₀ : Lent ieee64) (marks₀ : List ℕ) where
   -- the first h chunks are done and marked

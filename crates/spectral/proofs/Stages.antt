@@ -25,9 +25,7 @@ use Rattle.promises.specs.OneCall.{midway, endOf}
 use Rattle.promises.proofs.Ieee.{steady}
 use Rattle.promises.proofs.Promises.{valid, marks-enough}
 use Rattle.promises.proofs.Upward.{here-fit, here-over, end-ended, whole-shows, midway-ready, midway-closable, stage-next, chunks-asked}
-use Rattle.stages.proofs.Parts.{partsOf, parts-ready}
 use Rattle.spectral.specs.Said.{doneUp}
-use Rattle.spectral.proofs.Chunks.{done-parts}
 
 -- no run has more stages than the loop has turns
 bound : (rounds degree k refreshed : ℕ) → rounds ≤ 1000 → degree ≤ 1000 → k ≤ 15 → refreshed ≤ rounds * k → 9 + rounds * (degree + 2 + 7 * k) + 7 * refreshed < 2000000
@@ -90,14 +88,12 @@ module _ {d : ℕ} {params : Params} {g : Lists ieee64} {m : Lent ieee64} {marks
       absurd (f (ap (λ (x : State ieee64). x .progress .stage) (at .state ∙ ap (λ (i : ℕ). here d params g m marks i .state) e) ∙ end-ended ieee64 (steady binary64) d params g m marks ok)))
 
   -- each chunk of it will be ready, and has a mark
-  pub chunks-ready : (h : ℕ) → h < chunkCount (s .asked) → Ready ieee64 (partsOf ieee64 s) h g (doneUp (partsOf ieee64 s) g h (withRecord ieee64 [] l))
+  pub chunks-ready : (h : ℕ) → h < chunkCount (s .asked) → Ready ieee64 s h g (doneUp s g h (withRecord ieee64 [] l))
   chunks-ready h q =
-      subst (λ (x : Lent ieee64). Ready ieee64 (partsOf ieee64 s) h g x) (sym (done-parts s g h (withRecord ieee64 [] l)))
-      (parts-ready ieee64
-      (ready-beside ieee64 s h g (l .ritzRecord) (doneUp s g h (withRecord ieee64 [] l))
+      ready-beside ieee64 s h g (l .ritzRecord) (doneUp s g h (withRecord ieee64 [] l))
       (subst (λ (x : Lent ieee64). Ready ieee64 s h g x) (sym (midway-here h) ∙ beside-here h)
       (subst (λ (x : State ieee64). Ready ieee64 x h g (midway ieee64 d params g p h m)) (sym (at .state))
-      (midway-ready ieee64 (steady binary64) d params g m marks ok p h (at .within) (omega (arith, chunks-here)))))))
+      (midway-ready ieee64 (steady binary64) d params g m marks ok p h (at .within) (omega (arith, chunks-here)))))
 
   pub marks-here : chunkCount (s .asked) ≤ length k
   marks-here = omega (arith, chunks-here, ap length (at .marked), marks-enough ieee64 (steady binary64) d params g m marks ok)
@@ -106,13 +102,13 @@ module _ {d : ℕ} {params : Params} {g : Lists ieee64} {m : Lent ieee64} {marks
   marks-done e = omega (arith, marks-here, ap length e, fill-length 0 (chunkCount (s .asked)) (λ j. 1) k)
 
   -- where all chunks are done it can be closed, and the next one begins
-  module _ {y : Lent ieee64} (done : y ≡ doneUp (partsOf ieee64 s) g (chunkCount (s .asked)) (withRecord ieee64 [] l)) where
+  module _ {y : Lent ieee64} (done : y ≡ doneUp s g (chunkCount (s .asked)) (withRecord ieee64 [] l)) where
     abbrev l' : Lent ieee64
     l' = withRecord ieee64 (l .ritzRecord) y
 
     done-here : l' ≡ midway ieee64 d params g p (chunks (length (g .starts) - 1)) m
     done-here =
-        ap (withRecord ieee64 (l .ritzRecord)) (done ∙ done-parts s g (chunkCount (s .asked)) (withRecord ieee64 [] l)) ∙ sym (beside-here (chunkCount (s .asked)))
+        ap (withRecord ieee64 (l .ritzRecord)) done ∙ sym (beside-here (chunkCount (s .asked)))
         ∙ ap (λ (c : ℕ). doneUp s g c l) chunks-here ∙ midway-here (chunks (length (g .starts) - 1))
 
     pub closable : Closable ieee64 s l'

@@ -11,13 +11,10 @@ ghost use Rattle.machine.specs.Ready.{Ready};
 ghost use Rattle.promises.specs.Promises.{Accepted};
 ghost use Rattle.promises.specs.OneCall.{wholeCall, endOf};
 ghost use Rattle.state.specs.Said.{askedIn, countsIn, stateIn, listsIn, lentIn, lentAll};
-ghost use Rattle.stages.specs.Parts.{partsIn};
 ghost use Rattle.spectral.specs.Said.{wholeIn, doneUp, paramsAsked};
 use input::SpectralParams;
 use input::Verdict;
-use state::Asked;
 use state::Counts;
-use state::Progress;
 use state::State;
 
 // The verdict and the counts of the whole run; zero counts with a refusal.
@@ -27,13 +24,9 @@ pub struct Embedded {
     pub counts: Counts,
 }
 
-// All chunks of the state's stage, upward: of the state the parts that a chunk's work reads.
-fn all_chunks<'a>(
-    asked: Asked,
-    progress: Progress,
-    totals: &'a [f64; 225],
-    vectors: &'a [f64; 225],
-    order: &'a [usize; 15],
+// All chunks of the state's stage, upward.
+fn all_chunks(
+    state: State,
     starts: &[u64],
     columns: &[u32],
     values: &[f64],
@@ -48,26 +41,28 @@ fn all_chunks<'a>(
     marks: &mut [u8],
     output: &mut [f64],
 )
-    requires { ⌜ ((h : ℕ) → h < chunkCount (askedIn asked) → Ready ieee64 (partsIn asked progress (now totals) (now vectors) (now order)) h (listsIn (now starts) (now columns) (now values))
-        (doneUp (partsIn asked progress (now totals) (now vectors) (now order)) (listsIn (now starts) (now columns) (now values)) h
+    requires { ⌜ ((h : ℕ) → h < chunkCount (askedIn (state .asked)) → Ready ieee64 (stateIn state) h (listsIn (now starts) (now columns) (now values))
+        (doneUp (stateIn state) (listsIn (now starts) (now columns) (now values)) h
         (lentIn (now inverse) (now v0) (now «edge_columns») (now «edge_weights») (now block0) (now block1) (now block2) (now partials) (now output)))) ⌝ }
-    requires { ⌜ chunkCount (askedIn asked) ≤ length (now marks) ⌝ }
+    requires { ⌜ chunkCount (askedIn (state .asked)) ≤ length (now marks) ⌝ }
     ensures { λ _. ⌜ lentIn (now (inverse .exit)) (now (v0 .exit)) (now («edge_columns» .exit)) (now («edge_weights» .exit))
         (now (block0 .exit)) (now (block1 .exit)) (now (block2 .exit)) (now (partials .exit)) (now (output .exit))
-        ≡ doneUp (partsIn asked progress (now (totals .entry)) (now (vectors .entry)) (now (order .entry))) (listsIn (now (starts .entry)) (now (columns .entry)) (now (values .entry))) (chunkCount (askedIn asked))
+        ≡ doneUp (stateIn state) (listsIn (now (starts .entry)) (now (columns .entry)) (now (values .entry))) (chunkCount (askedIn (state .asked)))
         (lentIn (now (inverse .entry)) (now (v0 .entry)) (now («edge_columns» .entry)) (now («edge_weights» .entry))
         (now (block0 .entry)) (now (block1 .entry)) (now (block2 .entry)) (now (partials .entry)) (now (output .entry))) ⌝ }
-    ensures { λ _. ⌜ now (marks .exit) ≡ fillRange 0 (chunkCount (askedIn asked)) (λ h. 1) (now (marks .entry)) ⌝ }
+    ensures { λ _. ⌜ now (marks .exit) ≡ fillRange 0 (chunkCount (askedIn (state .asked))) (λ h. 1) (now (marks .entry)) ⌝ }
 {
+    let asked = state.asked;
+    let progress = state.progress;
     let chunks = input::chunk_count(asked.rows);
     let mut h = 0;
     while h < chunks {
         run::work_chunk(
             asked,
             progress,
-            totals,
-            vectors,
-            order,
+            &state.totals,
+            &state.vectors,
+            &state.order,
             h,
             starts,
             columns,
@@ -128,13 +123,8 @@ fn all_stages(
         if stage == 20 {
             return reached.counts;
         }
-        let asked = reached.asked;
         all_chunks(
-            asked,
-            progress,
-            &reached.totals,
-            &reached.vectors,
-            &reached.order,
+            reached,
             starts,
             columns,
             values,

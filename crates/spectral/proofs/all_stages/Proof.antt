@@ -59,14 +59,14 @@ returns c = ended (c .before .before .before .before .before .before .before .be
 
 all-chunks-requires : tie.Need-all-chunks-requires Inv-loop μ-loop
 all-chunks-requires c κs =
-    let at = c .before .before .before .before .before .before .before .before .before .before .before .before .before .before .before .before .before .before .loop .inv .1 in
-    let ok = c .before .before .before .before .before .before .before .before .before .before .before .before .before .before .before .before .before .before .before .before .before .before .before .before .before .before .before .before .before .before .before .before .before .pre .0 in
+    let at = c .before .before .before .before .before .before .before .before .before .before .before .before .before .loop .inv .1 in
+    let ok = c .before .before .before .before .before .before .before .before .before .before .before .before .before .before .before .before .before .before .before .before .before .before .before .before .before .before .before .before .pre .0 in
     (chunks-ready ok at, marks-here ok at)
 
 close-stage-requires : tie.Need-close-stage-requires Inv-loop μ-loop
 close-stage-requires c κs =
     let a = c .before .before .before .before .before .before .before .before .before .before .before .before .before .before .before .before .before .before .before .before .before .before .before .before in
-    let u = a .before .before .before .before .before .before .before .before .before .before .before .before .before .before .before .before .before .before .before in
+    let u = a .before .before .before .before .before .before .before .before .before .before .before .before .before .before in
     let at = u .loop .inv .1 in
     let ok = u .before .before .before .before .before .before .before .before .before .before .before .before .before .before .before .pre .0 in
     let d = a .all-chunks .ensures in
@@ -74,21 +74,21 @@ close-stage-requires c κs =
     (k .state, ((k .v0, k .partials), (marks-done ok at (d .1), k .ritzRecord)))
 
 sub-left : tie.Need-sub-left Inv-loop μ-loop
-sub-left c = omega (arith, c .before .before .before .before .before .before .before .before .before .before .before .before .before .before .before .before .before .before .before .before .before .before .before .before .before .before .before .before .before .before .before .before .before .before .before .before .before .before .before .before .before .before .before .before .before .before .before .loop-test .taken)
+sub-left c = omega (arith, c .before .before .before .before .before .before .before .before .before .before .before .before .before .before .before .before .before .before .before .before .before .before .before .before .before .before .before .before .before .before .before .before .before .before .before .before .before .before .before .before .before .before .loop-test .taken)
 
 loop-less : tie.Need-loop-less Inv-loop μ-loop
-loop-less c = omega (arith, c .before .before .before .before .before .before .before .before .before .before .before .before .before .before .before .before .before .before .before .before .before .before .before .before .before .before .before .before .before .before .before .before .before .before .before .before .before .before .before .before .before .before .before .before .before .before .before .loop-test .taken)
+loop-less c = omega (arith, c .before .before .before .before .before .before .before .before .before .before .before .before .before .before .before .before .before .before .before .before .before .before .before .before .before .before .before .before .before .before .before .before .before .before .before .before .before .before .before .before .before .before .loop-test .taken)
 
 loop-again : tie.Need-loop-again Inv-loop μ-loop
 loop-again c =
-    let e = c .before .before .before .before .before .before .before .before .before .before .before .before .before .before .before .before .before .before .before .before .before .before .before .before .before .before .before .before .before .before .before .before .before .before .before .before .before .before .before .before .before .before .before .before .before in
+    let e = c .before .before .before .before .before .before .before .before .before .before .before .before .before .before .before .before .before .before .before .before .before .before .before .before .before .before .before .before .before .before .before .before .before .before .before .before .before .before .before .before in
     let u = e .before .before in
     let i = u .before .loop .inv in
     let s = u .before .before .before .before .before .before .before .before .before .before .before .before .before .before .before .before in
     let ok = s .pre .0 in
     let d = c .before .before .before .before .before .before .before .before .before .before .before .before .before .before .before .before .before .before .before .before .before .before .before .before .before .before .before .before .before .all-chunks in
     let t = c .before .before .before .before .close-stage in
-    let k = d .kept .1 .1 .1 .1 .1 .1 .1 .1 in (
+    let k = d .kept .1 .1 .1 .1 in (
       omega (arith, i .0, u .loop-test .taken),
       counted-down _ (u .loop-test .taken) (i .0)
           (closed-next ok (i .1) (d .ensures .0) (d .ensures .1) (to-come ok (i .1) (e .if1 .left)) (t .ensures .0) (t .ensures .1 .0) (t .ensures .1 .1) (opened-marks _ _ _ _ (s .pre .1 .0) (s .pre .1 .1))),
