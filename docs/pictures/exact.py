@@ -13,12 +13,16 @@ def graph_of(folder, name):
 
 @functools.lru_cache(maxsize=None)
 def solved(folder, name):
-    """The eigenvalues, falling, and the first two eigenvectors behind the first, unscaled and centred as the seed is. For connected graphs."""
+    """The eigenvalues, falling, and the first two eigenvectors behind the first, unscaled and centred as the seed is. For connected graphs.
+
+    A solver may turn an eigenvector's sign from machine to machine: here the last row's number is always positive, so that pictures repeat.
+    """
     graph = graph_of(folder, name)
     inverse = 1 / np.sqrt(np.asarray(graph.sum(axis=1)).ravel())
     values, vectors = np.linalg.eigh(graph.toarray() * inverse[:, None] * inverse[None, :])
     columns = vectors[:, [-2, -3]] * inverse[:, None]
-    return values[::-1], columns - columns.mean(axis=0)
+    columns = columns - columns.mean(axis=0)
+    return values[::-1], columns * np.sign(columns[-1])
 
 
 def exact(folder, name):
