@@ -21,6 +21,7 @@ use Rattle.machine.specs.Closing.{closedBy, closed, recordAfter}
 use Rattle.machine.specs.Calls.{outcome, openCall, chunkCall, closeCall}
 use Rattle.machine.proofs.Record.{work-beside}
 use Rattle.ready.proofs.Ready.{chunk-accepted, close-accepted}
+use Rattle.stages.proofs.Parts.{partsOf, work-parts}
 
 -- ---- the code's verdict passes or refuses as the test that it equals
 module _ {v t : Verdict} (e : v ≡ t) where
@@ -79,12 +80,12 @@ module _ (A : Arith) (s : State A) (n : ℕ) (g : Lists A) (m : Lent A) (marks :
   unfolding chunkCall
   chunk-refused h = rw (other-refuses e h, e)
 
-  -- the work is shown beside no record at all
-  pub chunk-taken : {after : Lent A} {marked : List ℕ} → v .number ≡ 0 → after ≡ work A s g n (withRecord A [] m) → marked ≡ set marks n 1
+  -- the work is shown by the parts of the state that it reads, and beside no record at all
+  pub chunk-taken : {after : Lent A} {marked : List ℕ} → v .number ≡ 0 → after ≡ work A (partsOf A s) g n (withRecord A [] m) → marked ≡ set marks n 1
       → outcome A v s (withRecord A (m .ritzRecord) after) marked ≡ chunkCall A s n g m marks
   unfolding chunkCall
   chunk-taken h w l =
-      rw (zero-passes e h, e ∙ chunk-accepted A s n g m marks (zero-passes e h), ap (withRecord A (m .ritzRecord)) w ∙ sym (work-beside A (m .ritzRecord) s g n (withRecord A [] m)), l)
+      rw (zero-passes e h, e ∙ chunk-accepted A s n g m marks (zero-passes e h), ap (withRecord A (m .ritzRecord)) (w ∙ work-parts A s g n (withRecord A [] m)) ∙ sym (work-beside A (m .ritzRecord) s g n (withRecord A [] m)), l)
 
 -- ---- closing
 module _ (A : Arith) (s : State A) (g : Lists A) (m : Lent A) (marks : List ℕ) {v : Verdict} (e : v ≡ testClose A s g m marks) where

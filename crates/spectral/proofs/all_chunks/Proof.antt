@@ -1,12 +1,10 @@
 -- `all_chunks` meets its contract: each chunk of the stage is done and marked. Assumes nothing.
 use Prim.Native.Nat.{_-_, _<_}
-use Rattle.definition.specs.Arith.{ieee64}
 use Rattle.machine.specs.State.{chunkCount}
 use Rattle.state.specs.Said.{askedIn, stateIn, listsIn, lentIn}
-use Rattle.stages.proofs.Parts.{work-parts, parts-ready}
 use Rattle.spectral.proofs.Chunks.{Upto, none-done, next-ready, next-marked, one-more, all-done}
 use Rattle.spectral.proofs.Lengths.{Same, same, same-on}
-use mathlib.Core.Path.{_≡_, refl, _∙_}
+use mathlib.Core.Path.{_≡_, refl}
 use native.Mathlib.Omega.{arith}
 use borrow.Author.Needs.{needs}
 use Rattle.spectral.proofs.all_chunks.Statement.{statement}
@@ -33,7 +31,7 @@ work-chunk-requires c κs =
     let s = c .before .before .before .before .before .before .before .before .before .before .before .before .before .before .before .before .before .before .before .before .before .before .before .before .before .before .before .before .before .before .before .before in
     let i = a .loop .inv in
     let l : a .loop .h < chunkCount (askedIn (s .args .t1 .asked)) = omega (arith, i .0, c .before .before .before .before .before .before .before .before .before .before .before .before .before .before .loop-test .taken) in
-    (parts-ready ieee64 (next-ready (i .1) (s .pre .0) l), next-marked (i .1) (s .pre .1) l)
+    (next-ready (i .1) (s .pre .0) l, next-marked (i .1) (s .pre .1) l)
 
 add-h : tie.Need-add-h Inv-loop μ-loop
 add-h c = omega (arith, c .before .before .before .before .before .before .before .before .before .before .before .before .before .before .before .before .before .before .before .before .before .before .before .before .before .before .before .before .before .before .before .before .before .before .before .loop-test .taken, c .before .before .before .before .before .before .before .before .before .before .before .before .before .before .before .before .before .before .before .before .before .before .before .before .before .before .before .before .before .before .before .before .before .before .before .before .before .chunk-count .ok)
@@ -47,7 +45,7 @@ loop-again c =
     let u = c .before .before .before .before .before .before .before .before .before .before .before .before .before .before .before .before .before .before .before .before .before .before .before .before .before .before .before .before .before .before .before .before .before .before .before in
     let i = u .before .loop .inv in
     let k = w .kept .1 .1 .1 .1 .1 .1 .1 .1 .1 in
-    (i .0, one-more (i .1) (omega (arith, i .0, u .loop-test .taken)) (w .ensures .0 ∙ work-parts ieee64 _ _ _ _) (w .ensures .1), same-on (i .2) (record { inverse = k .0; v0 = k .1 .0; edgeColumns = k .1 .1 .0; edgeWeights = k .1 .1 .1 .0; block0 = k .1 .1 .1 .1 .0; block1 = k .1 .1 .1 .1 .1 .0; block2 = k .1 .1 .1 .1 .1 .1 .0; partials = k .1 .1 .1 .1 .1 .1 .1 .0; marked = k .1 .1 .1 .1 .1 .1 .1 .1 .0; output = k .1 .1 .1 .1 .1 .1 .1 .1 .1 .0; ritzRecord = refl }))
+    (i .0, one-more (i .1) (omega (arith, i .0, u .loop-test .taken)) (w .ensures .0) (w .ensures .1), same-on (i .2) (record { inverse = k .0; v0 = k .1 .0; edgeColumns = k .1 .1 .0; edgeWeights = k .1 .1 .1 .0; block0 = k .1 .1 .1 .1 .0; block1 = k .1 .1 .1 .1 .1 .0; block2 = k .1 .1 .1 .1 .1 .1 .0; partials = k .1 .1 .1 .1 .1 .1 .1 .0; marked = k .1 .1 .1 .1 .1 .1 .1 .1 .0; output = k .1 .1 .1 .1 .1 .1 .1 .1 .1 .0; ritzRecord = refl }))
 
 same-length : tie.Need-same-length Inv-loop μ-loop
 same-length c = c .before .loop .inv .2 .inverse

@@ -1,5 +1,5 @@
 -- `chunks::chunk` meets its contract: a refused chunk leaves all as it is, an accepted one has what `work_chunk` asks. Assumes nothing.
-use mathlib.Core.Path.{_≡_, refl, _∙_}
+use mathlib.Core.Path.{_≡_, refl}
 use borrow.Author.Needs.{needs}
 use Rattle.definition.specs.Arith.{ieee64}
 use Rattle.input.specs.Said.{verdictOf}
@@ -7,7 +7,7 @@ use Rattle.machine.specs.State.{Lists, Lent}
 use Rattle.machine.specs.Ranges.{testChunk}
 use Rattle.state.specs.Said.{stateIn, listsIn, lentAll}
 use Rattle.ready.proofs.Ready.{chunk-ready, ready-beside}
-use Rattle.stages.proofs.Parts.{work-parts, parts-ready}
+use Rattle.stages.proofs.Parts.{parts-ready}
 use Rattle.run.proofs.Paths.{zero-passes, chunk-refused, chunk-taken}
 use Rattle.run.proofs.chunks.chunk.Statement.{statement}
 use Rattle.run.proofs.chunks.chunk.Tie as tie
@@ -91,7 +91,7 @@ returns-2 c =
     let t = e .before .before in
     let s = entered t in
     chunk-taken ieee64 (stateIn (s .args .t1)) (s .args .number) (graph s) (lent s) (s .args .marks .now) (found t) (e .if1 .left)
-    (k .work-chunk .ensures .0 ∙ work-parts ieee64 (stateIn (s .args .t1)) (graph s) (s .args .number) _) (k .work-chunk .ensures .1)
+    (k .work-chunk .ensures .0) (k .work-chunk .ensures .1)
 
 pub chunk-spec : {M : Type 1} → statement M
 chunk-spec =
