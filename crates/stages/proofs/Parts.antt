@@ -1,6 +1,5 @@
 -- A chunk's work reads nothing of a state but the parts that `partsIn` keeps: the counts and the matrix have no part in it. Assumes nothing.
 use mathlib.Core.Path.{_≡_, refl}
-use mathlib.Core.List.{[]}
 use Prim.Native.Nat.{ℕ}
 use native.Mathlib.Omega.{arith}
 use Rattle.definition.specs.Arith.{Arith}
@@ -8,19 +7,12 @@ use Rattle.machine.specs.State.{Stage, stageOf, Lists, State, Lent}
 use Rattle.machine.specs.State as stage
 use Rattle.machine.specs.Ready.{Ready}
 use Rattle.machine.specs.Work.{workBy, work}
+use Rattle.stages.specs.Parts.{partsState}
 
 module _ (A : Arith) where
   -- the state with no counts and no matrix; of the code's state it is `partsIn` of its fields
   abbrev pub partsOf : State A → State A
-  partsOf s = record {
-    asked = s .asked;
-    progress = s .progress;
-    counts = record { passes = 0; refreshed = 0; zeroed = 0; isolated = 0 };
-    totals = s .totals;
-    matrix = [];
-    vectors = s .vectors;
-    order = s .order;
-  }
+  partsOf s = partsState A (s .asked) (s .progress) (s .totals) (s .vectors) (s .order)
 
   module _ (s : State A) (g : Lists A) (h : ℕ) (m : Lent A) where
     by-parts : (st : Stage) → workBy A st (partsOf s) g h m ≡ workBy A st s g h m
