@@ -24,6 +24,6 @@ from ._refusal import LoadError, Refusal
 from ._run import Counts, Embedding, Progress, Run, spectral_embedding
 from ._text import RunFile, read_run, write_answer, write_run
 
-__version__ = "0.3.2"
+__version__ = "0.3.3"
 __all__ = ["Counts", "Embedding", "LoadError", "Progress", "Refusal", "Run", "RunFile", "graph_digest", "read_run", "seed_digest"]
 __all__ += ["spectral_embedding", "write_answer", "write_run"]

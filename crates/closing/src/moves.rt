@@ -77,7 +77,8 @@ fn totals_to(state: State, stage: usize, width: usize, partials: &[f64]) -> Stat
         (totalsOf ieee64 (askedIn (state .asked)) width (now (partials .entry))) (stateIn state) ⌝ }
 {
     let asked = state.asked;
-    let totals = reduced::stage_totals(asked, width, partials);
+    let mut totals = [0.0; 225];
+    reduced::stage_totals(asked, width, partials, &mut totals);
     let mut next = state;
     next.progress.stage = stage;
     next.totals = totals;

@@ -9,14 +9,14 @@ ghost use Rattle.machine.specs.Closing.{totalsOf, normOf, scalesOf};
 ghost use Rattle.state.specs.Said.{askedIn};
 use state::Asked;
 
-// The totals of a stage that writes `width` numbers a chunk.
-pub fn stage_totals(asked: Asked, width: usize, partials: &[f64]) -> [f64; 225]
+// The totals of a stage that writes `width` numbers a chunk, put into `totals`, whatever stood there.
+pub fn stage_totals(asked: Asked, width: usize, partials: &[f64], totals: &mut [f64; 225])
     requires { ⌜ AskedReady (askedIn asked) ⌝ }
     requires { ⌜ (width ≤ wide (askedIn asked) * wide (askedIn asked)) × (chunkCount (askedIn asked) * wide (askedIn asked) * wide (askedIn asked) ≤ length (now partials)) ⌝ }
-    ensures { λ r. ⌜ r ≡ totalsOf ieee64 (askedIn asked) width (now (partials .entry)) ⌝ }
+    ensures { λ _. ⌜ now (totals .exit) ≡ totalsOf ieee64 (askedIn asked) width (now (partials .entry)) ⌝ }
 {
     let chunks = input::chunk_count(asked.rows);
-    sums::totals(chunks, asked.dims + 8, width, partials)
+    sums::totals(chunks, asked.dims + 8, width, partials, totals);
 }
 
 // The norm of the column whose squares were summed.
@@ -38,7 +38,8 @@ pub fn column_scales(asked: Asked, partials: &[f64]) -> [f64; 225]
     let rows = asked.rows;
     let dims = asked.dims;
     let target = asked.seed_std;
-    let mut scales = stage_totals(asked, dims, partials);
+    let mut scales = [0.0; 225];
+    stage_totals(asked, dims, partials, &mut scales);
     let mut c = 0;
     while c < dims {
         scales[c] = columns::output::column_scale(rows, target, scales[c]);

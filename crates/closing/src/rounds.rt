@@ -63,7 +63,8 @@ pub fn close_products(state: State, partials: &[f64], ritz_record: &mut [f64]) -
     let p = state.progress;
     let counts = state.counts;
     let k = asked.dims + 8;
-    let products = reduced::stage_totals(asked, k * k, partials);
+    let mut products = [0.0; 225];
+    reduced::stage_totals(asked, k * k, partials, &mut products);
     let mut matrix = products;
     ritz::symmetrize(&mut matrix, k);
     let mut vectors = [0.0; 225];

@@ -96,7 +96,8 @@ pub fn sums_partial(
     ensures { λ _. ⌜ now (partials .exit) ≡ withPartial ieee64 base d
         (λ q i. blockOf (ieee64 .none) n d (now (output .entry)) i q) first end (now (partials .entry)) ⌝ }
 {
-    let sums = rows::numbers(d, d, first, end, output);
+    let mut sums = [0.0; 225];
+    rows::numbers(d, d, first, end, output, &mut sums);
     put::put_partial(base, d, &sums, partials);
 }
 
@@ -119,13 +120,13 @@ pub fn squares_partial(
     put::put_partial(base, d, &sums, partials);
 }
 
-// A stage's totals: its partials, chunk by chunk, a number at each place below the width.
-pub fn totals(chunks: usize, k: usize, width: usize, partials: &[f64]) -> [f64; 225]
+// A stage's totals: its partials, chunk by chunk, a number at each place below the width. What stood in `sums` is not kept.
+pub fn totals(chunks: usize, k: usize, width: usize, partials: &[f64], sums: &mut [f64; 225])
     requires { ⌜ (k ≤ 15) × (width ≤ k * k) × (chunks * k * k ≤ length (now partials)) ⌝ }
-    ensures { λ r. ⌜ r ≡ fillRange 0 width (λ p. sumUp ieee64 (λ h. vectorOf (ieee64 .none) (now (partials .entry)) (h * (k * k) + p)) 0 chunks)
+    ensures { λ _. ⌜ now (sums .exit) ≡ fillRange 0 width (λ p. sumUp ieee64 (λ h. vectorOf (ieee64 .none) (now (partials .entry)) (h * (k * k) + p)) 0 chunks)
         (replicate 225 (ieee64 .zero)) ⌝ }
 {
-    rows::numbers(k * k, width, 0, chunks, partials)
+    rows::numbers(k * k, width, 0, chunks, partials, sums);
 }
 
 // The root of the total at place 0: a column's norm.
@@ -134,7 +135,8 @@ pub fn total_norm(chunks: usize, k: usize, partials: &[f64]) -> f64
     requires { ⌜ chunks * k * k ≤ length (now partials) ⌝ }
     ensures { λ r. ⌜ r ≡ ieee64 .root (sumUp ieee64 (λ h. vectorOf (ieee64 .none) (now (partials .entry)) (h * (k * k))) 0 chunks) ⌝ }
 {
-    let sums = totals(chunks, k, 1, partials);
+    let mut sums = [0.0; 225];
+    totals(chunks, k, 1, partials, &mut sums);
     numbers::root(sums[0])
 }
 

@@ -25,18 +25,25 @@ pub fn square_sum(stride: usize, c: usize, first: usize, end: usize, list: &[f64
     acc
 }
 
-// The first `width` numbers of each row.
-pub fn numbers(stride: usize, width: usize, first: usize, end: usize, list: &[f64]) -> [f64; 225]
+// The first `width` numbers of each row, in `acc`, whatever stood there.
+pub fn numbers(
+    stride: usize,
+    width: usize,
+    first: usize,
+    end: usize,
+    list: &[f64],
+    acc: &mut [f64; 225],
+)
     requires { ⌜ (width ≤ stride) × (width ≤ 225) × (first ≤ end) × (end * stride ≤ length (now list)) ⌝ }
-    ensures { λ r. ⌜ r ≡ summed ieee64 width (λ q i. vectorOf (ieee64 .none) (now (list .entry)) (i * stride + q)) first end ⌝ }
+    ensures { λ _. ⌜ now (acc .exit) ≡ summed ieee64 width (λ q i. vectorOf (ieee64 .none) (now (list .entry)) (i * stride + q)) first end ⌝ }
 {
-    let mut acc = [0.0; 225];
+    let zeros = [0.0; 225];
+    *acc = zeros;
     let mut i = first;
     while i < end {
-        row::add_numbers(&mut acc, width, list, i * stride);
+        row::add_numbers(acc, width, list, i * stride);
         i += 1;
     }
-    acc
 }
 
 // Their squares.

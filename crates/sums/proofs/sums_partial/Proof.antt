@@ -9,7 +9,7 @@ use Rattle.sums.proofs.sums_partial.Statement.{statement}
 use Rattle.sums.proofs.sums_partial.Tie as tie
 
 numbers-requires : tie.Need-numbers-requires
-numbers-requires c κs = let s = c .before .before in (omega arith, omega arith, omega arith, span-places _ (s .pre .0) (s .pre .1 .2) .within)
+numbers-requires c κs = let s = c .before .before .before in (omega arith, omega arith, omega arith, span-places _ (s .pre .0) (s .pre .1 .2) .within)
 
 put-partial-requires : tie.Need-put-partial-requires
 put-partial-requires c κs = search needs

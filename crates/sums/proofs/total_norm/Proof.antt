@@ -15,7 +15,7 @@ use Rattle.sums.proofs.total_norm.Statement.{statement}
 use Rattle.sums.proofs.total_norm.Tie as tie
 
 totals-requires : tie.Need-totals-requires
-totals-requires c κs = let k = c .before .args .k in omega (arith, mul-le-mul-right {m = 1} {n = k} k (omega arith))
+totals-requires c κs = let k = c .before .before .args .k in omega (arith, mul-le-mul-right {m = 1} {n = k} k (omega arith))
 
 array-read-root : tie.Need-array-read-root
 array-read-root c = search needs
@@ -25,7 +25,7 @@ root-requires c κs = search needs
 
 returns : tie.Need-returns
 returns c =
-    let a = c .before .before .before .args in
+    let a = c .before .before .before .before .args in
     c .root .ensures
     ∙ ap (rootOf binary64)
     (ap (λ (l : List Float). getD l 0 nan) (c .before .totals .ensures)

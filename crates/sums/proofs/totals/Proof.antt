@@ -11,7 +11,7 @@ mul-numbers c = omega (arith, square-most (c .before .args .k) (omega arith))
 
 numbers-requires : tie.Need-numbers-requires
 numbers-requires c κs =
-    let a = c .before .args in omega (arith, square-most (a .k) (omega arith), mul-assoc (a .chunks) (a .k) (a .k))
+    let a = c .before .before .args in omega (arith, square-most (a .k) (omega arith), mul-assoc (a .chunks) (a .k) (a .k))
 
 returns : tie.Need-returns
 unfolding summed

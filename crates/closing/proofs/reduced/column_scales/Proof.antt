@@ -8,9 +8,10 @@ use lib.ListN.{length, length-set}
 use Rattle.definition.specs.Arith.{ieee64, narrowed}
 use Rattle.definition.specs.Memory.{vectorOf, fillRange}
 use Rattle.definition.specs.SpectralEmbedding.{spread, scaleOf}
-use Rattle.definition.proofs.Fill.{fill-length, fill-start, fill-step, fill-ahead, fill-to}
-use Rattle.machine.specs.Closing.{totalsOf, scalesOf}
+use Rattle.definition.proofs.Fill.{fill-start, fill-step, fill-ahead, fill-to}
+use Rattle.machine.specs.Closing.{scalesOf}
 use Rattle.definition.proofs.Places.{square-least}
+use Rattle.closing.proofs.Room.{totals-room}
 use Rattle.closing.proofs.reduced.column_scales.Statement.{statement}
 use Rattle.closing.proofs.reduced.column_scales.Tie as tie
 
@@ -22,12 +23,11 @@ abbrev μ-loop : tie.MeasureT-loop
 
 stage-totals-requires : tie.Need-stage-totals-requires Inv-loop μ-loop
 stage-totals-requires c κs =
-    let s = c .before in
+    let s = c .before .before in
     (s .pre .0, (omega (arith, square-least (s .args .asked .dims + 8) (omega arith)), s .pre .1))
 
 loop-holds : tie.Need-loop-holds Inv-loop μ-loop
-unfolding totalsOf
-loop-holds c = (omega arith, ap length (c .stage-totals .ensures) ∙ fill-length 0 _ _ _, fill-start _ _ _)
+loop-holds c = (omega arith, totals-room ieee64 _ _ _ (c .stage-totals .ensures), fill-start _ _ _)
 
 mul-column-scale : tie.Need-mul-column-scale Inv-loop μ-loop
 mul-column-scale c = omega arith
@@ -53,7 +53,7 @@ loop-less c = omega arith
 loop-again : tie.Need-loop-again Inv-loop μ-loop
 loop-again c =
     let l = c .before .before .loop in
-    let s = c .before .before .before .before .before in (
+    let s = c .before .before .before .before .before .before in (
       omega arith,
       simp length-set (l .inv .1),
       fill-step _ _ _ _ (omega arith) (l .inv .2)
@@ -63,7 +63,7 @@ loop-again c =
 returns : tie.Need-returns Inv-loop μ-loop
 unfolding scalesOf narrowed
 returns c =
-    let s = c .before .before .before .before .args .asked in
+    let s = c .before .before .before .before .before .args .asked in
     fill-to _ _ _ (c .before .loop .inv .2) (omega arith)
     ∙ ap (λ (l : List Float). fillRange 0 (s .dims) (λ j. scaleOf ieee64 (s .«seed_std») (spread ieee64 (s .rows) (vectorOf nan l j))) l) (c .before .before .stage-totals .ensures)
 

@@ -13,11 +13,11 @@ add-totals : tie.Need-add-totals
 add-totals c = omega arith
 
 totals-requires : tie.Need-totals-requires
-totals-requires c κs = let s = c .before .before .before in (omega arith, s .pre .1 .0, rw (c .before .chunk-count .ensures) (s .pre .1 .1))
+totals-requires c κs = let s = c .before .before .before .before in (omega arith, s .pre .1 .0, rw (c .before .before .chunk-count .ensures) (s .pre .1 .1))
 
 returns : tie.Need-returns
 unfolding totalsOf totalAt
-returns c = c .totals .ensures ∙ rw (c .before .before .chunk-count .ensures)
+returns c = c .totals .ensures ∙ rw (c .before .before .before .chunk-count .ensures)
 
 pub stage-totals-spec : {M : Type 1} → statement M
 stage-totals-spec = tie.close (tie.spec chunk-count-requires add-totals totals-requires returns)

@@ -8,6 +8,7 @@ use native.Mathlib.Omega.{arith}
 use Rattle.definition.proofs.Fill.{fill-length}
 use Rattle.definition.proofs.Places.{square-most, row-end}
 use Rattle.closing.proofs.Order.{order-below}
+use Rattle.closing.proofs.Room.{totals-room}
 use Rattle.closing.proofs.Round.{round-made}
 use borrow.Author.Needs.{needs}
 use Rattle.closing.proofs.rounds.close_products.Statement.{statement}
@@ -23,26 +24,26 @@ stage-totals-requires : tie.Need-stage-totals-requires
 stage-totals-requires c κs = search needs
 
 symmetrize-requires : tie.Need-symmetrize-requires
-symmetrize-requires c κs = search needs
+symmetrize-requires c κs = (record { least = omega arith; most = omega arith }, totals-room ieee64 _ _ _ (c .before .stage-totals .ensures))
 
 jacobi-in-place-requires : tie.Need-jacobi-in-place-requires
 jacobi-in-place-requires c κs =
     let m = c .before .before in
     let t = m .before .before in
-    let a = t .before .before .before .before .before .before .before .pre .0 .asked in
-    (record { least = omega (arith, a .dims-least); most = omega (arith, a .dims-most) }, ap length (m .symmetrize .ensures) ∙ fill-length _ _ _ (t .stage-totals .result) ∙ t .stage-totals .ok .1 .0 .1)
+    let a = t .before .before .before .before .before .before .before .before .pre .0 .asked in
+    (record { least = omega (arith, a .dims-least); most = omega (arith, a .dims-most) }, ap length (m .symmetrize .ensures) ∙ fill-length _ _ _ _ ∙ totals-room ieee64 _ _ _ (t .stage-totals .ensures))
 
 ritz-order-requires : tie.Need-ritz-order-requires
 ritz-order-requires c κs = search needs
 
 after-products-requires : tie.Need-after-products-requires
 after-products-requires c κs =
-    let s = c .before .before .before .before .before .before .before .before .before .before .before .before .before .before .before in
+    let s = c .before .before .before .before .before .before .before .before .before .before .before .before .before .before .before .before in
     (s .pre .0 .asked, (s .pre .0 .progress .round, order-below _ _ _ (c .before .ritz-order .result) _ (c .before .ritz-order .ensures) (omega arith)))
 
 record-round-requires : tie.Need-record-round-requires
 record-round-requires c κs =
-    let s = c .before .before .before .before .before .before .before .before .before .before .before .before .before .before .before .before .before .before in
+    let s = c .before .before .before .before .before .before .before .before .before .before .before .before .before .before .before .before .before .before .before in
     let o = c .before .before .before .before in
     let a = s .args .state .asked in (
       record { least = omega (arith, s .pre .0 .asked .dims-least); most = omega (arith, s .pre .0 .asked .dims-most) },

@@ -18,7 +18,7 @@ abbrev μ-loop : tie.MeasureT-loop
 μ-loop stride width first end list acc₀ i₀ acc i = end - i
 
 -- the row that a turn reads lies in the list
-row : (c : tie.After-acc Inv-loop μ-loop) →
+row : (c : tie.After-add-numbers-arg Inv-loop μ-loop) →
     let a = c .before .before .before .before .args in
     c .before .before .loop .i * a .stride + a .stride ≤ length (a .list .now)
 row c =
