@@ -25,7 +25,7 @@ pub not-right : (a b : Bool) → b ≡ false → (a && b) ≡ false
 not-right true b p = p
 not-right false b p = refl
 
-either-of : (a b : Bool) → (a || b) ≡ true → (a ≡ true) ⊎ (b ≡ true)
+pub either-of : (a b : Bool) → (a || b) ≡ true → (a ≡ true) ⊎ (b ≡ true)
 either-of true b h = inl refl
 either-of false b h = inr h
 

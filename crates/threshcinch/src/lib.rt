@@ -23,6 +23,7 @@ use spectral::Embedded;
 use state::Answer;
 use state::State;
 
+mod markets; // Matrix Market files
 mod texts; // run files and answers
 
 // The sizes of the lent memory, 0 to 10 in document 01's order, in elements; zeros with a refusal.

@@ -1,0 +1,2 @@
+-- What the theorems say.
+pub mod Grammar

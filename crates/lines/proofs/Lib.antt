@@ -1,0 +1,9 @@
+-- Laws for the proofs of this crate's functions: Runs (the bytes up to where something ends), Ends (where a line ends), Words (the words of a
+-- line), Numbers (words as numbers, and what a line says), Banners (words that
+-- are given ones, and the banner), Cases (the definitions at work).
+pub mod Runs
+pub mod Ends
+pub mod Words
+pub mod Numbers
+pub mod Banners
+pub mod Cases

@@ -1,0 +1,4 @@
+-- What the contracts cite.
+pub mod Market
+pub mod Graph
+pub mod Passes
