@@ -7,12 +7,13 @@
  * crates/definition and crates/machine). None asks for anything first, except what C itself leaves to the caller: a list's address and
  * length must be those of memory that is there, aligned for its elements, and a list that is written must overlap no other list of the call;
  * and the thread must have the stack that a call takes: about 52,000 bytes (reading a run file 51,300, writing one 50,700, closing 40,500, the
- * one call 35,000, a chunk 33,800, opening 18,000, writing an answer 9,800; bindings/c/stack.c measures them).
+ * one call 35,000, a chunk 33,800, opening 18,000, writing an answer 9,800; bindings/c/stack.c measures them). One call takes far more: reading a
+ * Matrix Market file, about 394,000 bytes whatever the file is. A host whose threads have small stacks must know it.
  *
  * Call the short forms: threshcinch_embed, threshcinch_run_open, _run_chunk, _run_close, _run_accepted and _run_owed, threshcinch_file_write,
- * _file_read and threshcinch_answer_write, and threshcinch_set_seed_std. They are a few lines around the library's own functions, the long
- * forms, and see to two things that the proofs take for granted: no list is NULL, and the processor's arithmetic is IEEE 754's (THE ARITHMETIC,
- * below).
+ * _file_read and threshcinch_answer_write, threshcinch_market_sizes and _market_read, and threshcinch_set_seed_std. They are a few lines around
+ * the library's own functions, the long forms, and see to two things that the proofs take for granted: no list is NULL, and the processor's
+ * arithmetic is IEEE 754's (THE ARITHMETIC, below).
  *
  * WHAT IS PROMISED
  * 1. Every call ends, on every graph, parameter, state and memory. Bad input is refused by a number and a place (below). A refused call
@@ -51,6 +52,30 @@
  * A run file has at most 32,768 bytes and an answer at most 8,192: with that much room 18 is never met. Proved too (crates/files): reading what
  * was written gives the same D, parameters and graph; and writing what was read from a file that passes 1 to 10 gives the file's own bytes.
  *
+ * MATRIX MARKET FILES
+ * Graphs are also handed on as Matrix Market files, of the kind coordinate, pattern, symmetric. One function reads such a text into three lists
+ * that a host lends; a small one reads to the size line only and answers how long lists suffice, so that a host can take memory first.
+ * - Line 1 is the banner: %%MatrixMarket, exactly so and from the line's first byte on, and the words matrix, coordinate, pattern, symmetric, each
+ *   letter in either case. Then comment lines, which begin with % and hold any byte; then the size line: rows, columns, entries; then one
+ *   line for each entry: row and column, counted from 1. Blank lines, which have spaces and tabs at most, may stand anywhere after the first line.
+ * - Words and numbers are separated by one or more spaces or tabs, which may stand behind the last one too, and before a line's first number. A
+ *   number is decimal digits, leading zeros allowed, with no sign, and below 2^64.
+ * - A line ends with a newline, or a carriage return and a newline, or the end of the text (an end right after a newline begins no line). Without that
+ *   end it has at most 1,024 bytes. A carriage return elsewhere is a fault in every line, comments too.
+ * - Rows and columns are equal in number, n; the size line has no more than n (n + 1) / 2 entries; there are exactly as many as it says; each one's
+ *   row is at least its column and at most n, its column at least 1; and none repeats.
+ * - The graph: each entry becomes value 1.0, off the diagonal it is placed in both rows, and a row's entries rise by column. Proved too
+ *   (crates/mirrored): such a graph passes 2 to 7, has no column twice in a row, and is symmetric bit for bit.
+ * - Reading refuses, in this order: 19 at the first line at fault, from 1 (of a repeated entry the later line; where entries or the size line are
+ *   missing, the line that is missing; 1 for no text at all), whatever the lists are; 2 for no rows; 3 for more than 1,048,576 rows or 67,108,864
+ *   entries as placed; 11 at the first list that is too short: 0 the starts (n + 1), 1 the columns, 2 the values (the entries as placed). A refused
+ *   call answers zeros, and every lent number stays. An accepted one leaves the numbers behind the graph's as they were.
+ * - The small call refuses by 19 for the lines up to the size line, then by 2, and by 3 for the rows or for more than 67,108,864 entries on that line.
+ *   Reading goes on where it stops: what it accepts may be refused by 19 or 3, and what it refuses by 2 or 3 may have a line at fault further down, 19.
+ * - A text whose entries stand in strictly rising order, by column and row or by row and column, as every tool writes them, is tested in one pass. In
+ *   any other order repeats are looked for in bounded memory, on the stack: block by block of 16,384 entries, each in one pass over what
+ *   stands behind it. This takes more than linear time, the entries' number times the number of blocks; its memory is the stack that is named above.
+ *
  * WHAT MAY BE CALLED FROM SEVERAL THREADS AT ONCE
  * - threshcinch_chunk on the same state, graph and memory, as long as no two calls that run at once have the same chunk number. It reads
  *   nothing that another chunk of its stage writes and writes only its own rows, entries, partial and mark: proved in crates/threads for
@@ -59,7 +84,7 @@
  *   which found nothing in the library of the first landing (its threads did not yet change their rounding then).
  * - NOT beside chunk calls of the same run: threshcinch_close, threshcinch_open, threshcinch_spectral_embedding, or anything else that
  *   touches the lent memory. Join the chunk calls first.
- * - Calls on different memory, at any time: nothing here has state of its own. The graph is only read and may be shared.
+ * - Calls on different memory, at any time: nothing here has state of its own. A graph, or a text, that is only read may be shared.
  * - The functions that take no lists (parameters, sizes, progress), at any time.
  * Each thread has a control register of its own, and a short form sets and puts back that of its thread alone.
  *
@@ -70,7 +95,7 @@
  * So each short form sets the register to its default (0x1F80: also no exception traps) for the time of the call, and then puts back the
  * whole register as it found it, with the flags of exceptions that were raised before: a call raises none. Long forms compute in whatever
  * arithmetic they find. Functions that have no short form (threshcinch_params_new, _rounds and _degree, _chunk_count, _lent_sizes) compute
- * with whole numbers alone: no register reaches them. Reader and writers of text round nothing, but the writers compare floating-point numbers,
+ * with whole numbers alone: no register reaches them. Readers and writers of text round nothing, but the writers compare floating-point numbers,
  * and such a comparison may see a subnormal number as zero, raise a flag, or trap: hence their short forms.
  */
 #ifndef THRESHCINCH_H
@@ -100,7 +125,7 @@ extern "C" {
  * that is 0 the second one too: one of them rises whenever a program that was linked before would go wrong, so that such a program does not
  * find the new one. */
 
-#define THRESHCINCH_VERSION "0.3.3"
+#define THRESHCINCH_VERSION "0.3.4"
 
 THRESHCINCH_API const char *const threshcinch_version;
 
@@ -117,7 +142,7 @@ enum threshcinch_refusal {
   THRESHCINCH_ROUNDS = 8,        /* rounds not 1 to 1,000 */
   THRESHCINCH_DEGREE = 9,        /* degree not 1 to 1,000 */
   THRESHCINCH_SEED_STD = 10,     /* seed_std not positive and finite */
-  THRESHCINCH_MEMORY = 11,       /* lent memory too short; place: the first short list, 0 to 10 */
+  THRESHCINCH_MEMORY = 11,       /* lent memory too short; place: the first short list, 0 to 10; of a graph that is read 0 to 2 */
   THRESHCINCH_NO_CHUNK = 12,     /* chunk number not below the number of chunks; place: the number offered */
   THRESHCINCH_CHUNK_DONE = 13,   /* that chunk is already done in this stage; place: its number */
   THRESHCINCH_CHUNKS_LEFT = 14,  /* closing with a chunk not done; place: the lowest such */
@@ -125,7 +150,8 @@ enum threshcinch_refusal {
   THRESHCINCH_DAMAGED = 16,      /* a state field out of its range, or a list or mark that does not fit the state; never met on what a
                                     run from its opening has reached */
   THRESHCINCH_TEXT = 17,         /* no run file, or more than one holds, or an answer of over 64 rows; place: the line, from 1, or 0 */
-  THRESHCINCH_ROOM = 18          /* the text has too little room for what is to be written */
+  THRESHCINCH_ROOM = 18,         /* the text has too little room for what is to be written */
+  THRESHCINCH_MATRIX_MARKET = 19 /* no Matrix Market file (coordinate, pattern, symmetric); place: the first line at fault, from 1 */
 };
 
 /* ---- records: they cross by value, and hold numbers and arrays only, so that a host may store them as they are */
@@ -238,6 +264,21 @@ typedef struct {
   double values[THRESHCINCH_FILE_ENTRIES];
 } threshcinch_run_file;
 
+/* what reading a Matrix Market file answers: how many rows the graph has, and how many entries as placed; zeros with a refusal (19, 2, 3, 11) */
+typedef struct {
+  threshcinch_verdict verdict;
+  size_t rows;
+  size_t entries;
+} threshcinch_matrix_market;
+
+/* room that suffices for one: n + 1 starts; columns and values, of each twice the entries of the size line, but no more than 67,108,864; zeros with a
+ * refusal (19, 2, 3) */
+typedef struct {
+  threshcinch_verdict verdict;
+  size_t starts;
+  size_t entries;
+} threshcinch_matrix_market_room;
+
 THRESHCINCH_ASSERT(sizeof(size_t) == 8 && sizeof(double) == 8);
 THRESHCINCH_ASSERT(sizeof(threshcinch_verdict) == 16 && offsetof(threshcinch_verdict, place) == 8);
 THRESHCINCH_ASSERT(sizeof(threshcinch_params) == 24 && offsetof(threshcinch_params, degree) == 8 && offsetof(threshcinch_params, seed_std) == 16);
@@ -256,6 +297,10 @@ THRESHCINCH_ASSERT(sizeof(threshcinch_run_file) == 12880);
 THRESHCINCH_ASSERT(offsetof(threshcinch_run_file, d) == 16 && offsetof(threshcinch_run_file, params) == 24);
 THRESHCINCH_ASSERT(offsetof(threshcinch_run_file, start_count) == 48 && offsetof(threshcinch_run_file, starts) == 72);
 THRESHCINCH_ASSERT(offsetof(threshcinch_run_file, columns) == 592 && offsetof(threshcinch_run_file, values) == 4688);
+THRESHCINCH_ASSERT(sizeof(threshcinch_matrix_market) == 32);
+THRESHCINCH_ASSERT(offsetof(threshcinch_matrix_market, rows) == 16 && offsetof(threshcinch_matrix_market, entries) == 24);
+THRESHCINCH_ASSERT(sizeof(threshcinch_matrix_market_room) == 32);
+THRESHCINCH_ASSERT(offsetof(threshcinch_matrix_market_room, starts) == 16 && offsetof(threshcinch_matrix_market_room, entries) == 24);
 
 /* ---- parameters: 5 rounds of degree 20, seed_std 1e-4, until set. A setter tests the number that it sets and no other; opening and the one
  * call test all three, so a host may also write the fields itself. */
@@ -379,6 +424,16 @@ THRESHCINCH_API threshcinch_written threshcinch_write_answer(
     threshcinch_verdict verdict, uint64_t d, size_t rows, threshcinch_counts counts,
     const double *seed, size_t seed_length,
     uint8_t *text, size_t text_length);
+
+/* the graph of a Matrix Market file, into these lists; refusals 19, 2, 3, 11 in this order */
+THRESHCINCH_API threshcinch_matrix_market threshcinch_read_matrix_market(
+    const uint8_t *text, size_t text_length,
+    uint64_t *starts, size_t starts_length,
+    uint32_t *columns, size_t columns_length,
+    double *values, size_t values_length);
+
+/* how long lists suffice for it; refusals 19, 2, 3 in this order. It reads to the size line only. */
+THRESHCINCH_API threshcinch_matrix_market_room threshcinch_matrix_market_sizes(const uint8_t *text, size_t text_length);
 
 /* ---- the short forms */
 
@@ -570,6 +625,79 @@ static inline threshcinch_written threshcinch_answer_write(threshcinch_embedded 
   return written;
 }
 
+/* ---- Matrix Market files. Text that is NULL is empty, and so is a NULL list: no such file, and no room. All of it together:
+ *
+ *   const threshcinch_matrix_market_room room = threshcinch_market_sizes(text, length);
+ *   threshcinch_graph_lists lists;
+ *   if (!threshcinch_graph_lists_new(&lists, room)) ... there is not so much memory
+ *   const threshcinch_matrix_market market = threshcinch_market_read(text, length, &lists);
+ *   if (market.verdict.number) ... refused, at market.verdict.place
+ *   const threshcinch_graph graph = threshcinch_market_graph(market, &lists);
+ *   ...
+ *   threshcinch_graph_lists_free(&lists);
+ *
+ * The first answer's verdict need not be looked at: where it is a refusal its room is none, and reading refuses too. */
+
+/* the lists of a graph that is read: those of threshcinch_graph, to be written */
+typedef struct {
+  uint64_t *starts;
+  size_t starts_length;
+  uint32_t *columns;
+  size_t columns_length;
+  double *values;
+  size_t values_length;
+} threshcinch_graph_lists;
+
+/* Answers how long lists suffice for a Matrix Market file, from its lines up to the size line. */
+static inline threshcinch_matrix_market_room threshcinch_market_sizes(const void *text, size_t length) {
+  const unsigned found = threshcinch_arithmetic_begin();
+  const threshcinch_matrix_market_room room = threshcinch_matrix_market_sizes(THRESHCINCH_TEXT_OF(text, length));
+  threshcinch_arithmetic_end(found);
+  return room;
+}
+
+/* Reads a Matrix Market file into lists, and answers how much of them the graph takes. */
+static inline threshcinch_matrix_market threshcinch_market_read(const void *text, size_t length, const threshcinch_graph_lists *lists) {
+  const unsigned found = threshcinch_arithmetic_begin();
+  const threshcinch_matrix_market market = threshcinch_read_matrix_market(THRESHCINCH_TEXT_OF(text, length), THRESHCINCH_GRAPH(lists));
+  threshcinch_arithmetic_end(found);
+  return market;
+}
+
+/* The graph that was read, with the lists' own numbers: for as long as the lists are there. Of a refused reading it is no graph (2). */
+static inline threshcinch_graph threshcinch_market_graph(threshcinch_matrix_market market, const threshcinch_graph_lists *lists) {
+  return threshcinch_graph_of(market.rows, lists->starts, market.entries, lists->columns, lists->values);
+}
+
+/* Gives back what threshcinch_graph_lists_new took. */
+static inline void threshcinch_graph_lists_free(threshcinch_graph_lists *lists) {
+  free(lists->starts);
+  lists->starts = NULL;
+  lists->starts_length = 0;
+  free(lists->columns);
+  lists->columns = NULL;
+  lists->columns_length = 0;
+  free(lists->values);
+  lists->values = NULL;
+  lists->values_length = 0;
+}
+
+/* Takes the memory that a graph needs, as zeros. Answers 1, or 0 where there is not so much, and then holds nothing. */
+static inline int threshcinch_graph_lists_new(threshcinch_graph_lists *lists, threshcinch_matrix_market_room room) {
+  int whole = 1;
+  lists->starts_length = room.starts;
+  lists->starts = (uint64_t *)calloc(room.starts + 1, sizeof *lists->starts);
+  whole = whole && lists->starts;
+  lists->columns_length = room.entries;
+  lists->columns = (uint32_t *)calloc(room.entries + 1, sizeof *lists->columns);
+  whole = whole && lists->columns;
+  lists->values_length = room.entries;
+  lists->values = (double *)calloc(room.entries + 1, sizeof *lists->values);
+  whole = whole && lists->values;
+  if (!whole) threshcinch_graph_lists_free(lists);
+  return whole;
+}
+
 /* ---- around a run */
 
 /* a run stands before one of its stages */
@@ -682,6 +810,7 @@ static inline const char *threshcinch_words(uint64_t number) {
     case 16: return "the state, or a list for it, is damaged";
     case 17: return "the text is not a run file, or more than one holds";
     case 18: return "the text has too little room";
+    case 19: return "the text is not a Matrix Market file of the kind coordinate pattern symmetric";
     default: return "no refusal has this number";
   }
 }

@@ -48,13 +48,18 @@ typedef struct {
   size_t told;
 } Outcome;
 
-/* A run file, what was read from it, and an answer. */
+/* A run file, what was read from it, and an answer; and what was read from a Matrix Market file. */
 typedef struct {
   uint8_t file[THRESHCINCH_FILE_BYTES];
   threshcinch_written file_written;
   threshcinch_run_file read;
   uint8_t answer[THRESHCINCH_ANSWER_BYTES];
   threshcinch_written answer_written;
+  threshcinch_matrix_market_room room;
+  threshcinch_matrix_market market;
+  uint64_t starts[3];
+  uint32_t columns[3];
+  double values[3];
 } Texts;
 
 /* What every environment is held to, from the default one. */
@@ -195,6 +200,24 @@ static void try_progress(const Environment *environment, const Expected *expecte
   if (bare != (environment->reads_zeros ? 0 : owed)) fail("%s: the long form tells %zu calls owed of %zu", environment->name, bare, owed);
 }
 
+/* Entries in no rising order, so that repeats are looked for. */
+static void read_market(const Environment *environment, Texts *texts) {
+  static const char text[] = "%%MatrixMarket matrix coordinate pattern symmetric\n2 2 2\n2 2\n2 1\n";
+  threshcinch_graph_lists lists;
+  lists.starts = texts->starts;
+  lists.columns = texts->columns;
+  lists.values = texts->values;
+  lists.starts_length = lists.columns_length = lists.values_length = 3;
+  _mm_setcsr(environment->mxcsr);
+  texts->room = threshcinch_market_sizes(text, sizeof text - 1);
+  as_found(environment, "the room for a Matrix Market file");
+  texts->market = threshcinch_market_read(text, sizeof text - 1, &lists);
+  as_found(environment, "reading a Matrix Market file");
+  _mm_setcsr(THRESHCINCH_MXCSR);
+  accept("the room for a Matrix Market file", texts->room.verdict);
+  accept("reading a Matrix Market file", texts->market.verdict);
+}
+
 /* Subnormal numbers all over, and a NaN that signals. */
 static void make_texts(const Environment *environment, Texts *texts) {
   const threshcinch_graph graph = ring(SMALL_ROWS);
@@ -215,12 +238,13 @@ static void make_texts(const Environment *environment, Texts *texts) {
   accept("writing a run file", texts->file_written.verdict);
   accept("reading a run file", texts->read.verdict);
   accept("writing an answer", texts->answer_written.verdict);
+  read_market(environment, texts);
 }
 
 static void try_texts(const Environment *environment, const Expected *expected) {
   static Texts texts;
   make_texts(environment, &texts);
-  if (memcmp(&texts, &expected->texts, sizeof texts)) fail("%s: a text has other bytes", environment->name);
+  if (memcmp(&texts, &expected->texts, sizeof texts)) fail("%s: a text has other bytes, or another graph was read", environment->name);
 }
 
 typedef struct {

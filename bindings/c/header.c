@@ -223,10 +223,10 @@ static void progress_counts_whole_stages(void) {
 
 /* Up to the last number; behind it there are none. */
 static void each_refusal_has_words_of_its_own(void) {
-  const char *const none = threshcinch_words(THRESHCINCH_ROOM + 1);
+  const char *const none = threshcinch_words(THRESHCINCH_MATRIX_MARKET + 1);
   if (strcmp(threshcinch_words(UINT64_MAX), none)) fail("a number that is no refusal's has words");
-  for (uint64_t number = 0; number <= THRESHCINCH_ROOM; number++)
-    for (uint64_t other = number + 1; other <= THRESHCINCH_ROOM + 1; other++)
+  for (uint64_t number = 0; number <= THRESHCINCH_MATRIX_MARKET; number++)
+    for (uint64_t other = number + 1; other <= THRESHCINCH_MATRIX_MARKET + 1; other++)
       if (!strcmp(threshcinch_words(number), threshcinch_words(other))) fail("%u and %u have the same words", (unsigned)number, (unsigned)other);
 }
 

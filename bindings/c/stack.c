@@ -9,7 +9,8 @@
 
 #include "check.h"
 
-enum { STACK = 96 * 1024, PATTERN = 0xA5, SAID = 56000 };
+/* What the header says at most; of reading a Matrix Market file it says more. */
+enum { STACK = 96 * 1024, SAID = 56000, MARKET_STACK = 1024 * 1024, MARKET_SAID = 400000, PATTERN = 0xA5 };
 
 /* A call to be made, and the frame that made it. */
 typedef struct Call {
@@ -26,6 +27,11 @@ typedef struct Call {
   size_t room;
   threshcinch_written written;
   threshcinch_run_file file;
+  const char *market_text;
+  size_t market_length;
+  threshcinch_graph_lists lists;
+  threshcinch_matrix_market_room market_room;
+  threshcinch_matrix_market market;
   const unsigned char *frame;
 } Call;
 
@@ -46,6 +52,8 @@ MAKES(write_file, call->written = threshcinch_file_write(call->d, call->params, 
 MAKES(read_file, threshcinch_file_read(call->text, call->room, &call->file))
 MAKES(write_answer, call->written = threshcinch_answer_write(call->embedded, call->d, call->graph->starts_length - 1, call->memory->output,
                                                              call->memory->output_length, call->text, call->room))
+MAKES(market_sizes, call->market_room = threshcinch_market_sizes(call->market_text, call->market_length))
+MAKES(read_market, call->market = threshcinch_market_read(call->market_text, call->market_length, &call->lists))
 
 static void *thread_main(void *given) {
   Call *call = (Call *)given;
@@ -53,21 +61,23 @@ static void *thread_main(void *given) {
   return NULL;
 }
 
-/* Bytes used below the frame that made the call. */
-static size_t used(Call *call, void (*make)(Call *)) {
-  static unsigned char stack[STACK] __attribute__((aligned(4096)));
+/* Bytes used below the frame that made the call, of a stack of this size. */
+static size_t used_of(size_t size, Call *call, void (*make)(Call *)) {
+  static unsigned char stack[MARKET_STACK] __attribute__((aligned(4096)));
   pthread_attr_t attributes;
   pthread_t thread;
   size_t untouched = 0;
   call->make = make;
-  memset(stack, PATTERN, sizeof stack);
-  if (pthread_attr_init(&attributes) || pthread_attr_setstack(&attributes, stack, sizeof stack)) fail("no stack of its own");
+  memset(stack, PATTERN, size);
+  if (pthread_attr_init(&attributes) || pthread_attr_setstack(&attributes, stack, size)) fail("no stack of its own");
   if (pthread_create(&thread, &attributes, thread_main, call) || pthread_join(thread, NULL)) fail("no thread");
   pthread_attr_destroy(&attributes);
-  while (untouched < STACK && stack[untouched] == PATTERN) untouched++;
-  if (!untouched) fail("a call takes more than %d bytes", STACK);
+  while (untouched < size && stack[untouched] == PATTERN) untouched++;
+  if (!untouched) fail("a call takes more than %zu bytes", size);
   return (size_t)(call->frame - (stack + untouched));
 }
+
+static size_t used(Call *call, void (*make)(Call *)) { return used_of(STACK, call, make); }
 
 /* The most that each kind of call took. */
 typedef struct {
@@ -79,6 +89,8 @@ typedef struct {
   size_t write_file;
   size_t read_file;
   size_t write_answer;
+  size_t market_sizes;
+  size_t market;
 } Most;
 
 static void raise_to(size_t *most, size_t bytes) {
@@ -133,6 +145,20 @@ static void measure_texts(uint64_t d, const threshcinch_graph *graph, Most *most
   threshcinch_memory_free(&memory);
 }
 
+/* A Matrix Market file. */
+static void measure_market(const char *text, Most *most) {
+  Call call;
+  memset(&call, 0, sizeof call);
+  call.market_text = text;
+  call.market_length = strlen(text);
+  raise_to(&most->market_sizes, used(&call, market_sizes));
+  accept("the room for a Matrix Market file", call.market_room.verdict);
+  if (!threshcinch_graph_lists_new(&call.lists, call.market_room)) fail("no memory for the lists");
+  raise_to(&most->market, used_of(MARKET_STACK, &call, read_market));
+  accept("reading a Matrix Market file", call.market.verdict);
+  threshcinch_graph_lists_free(&call.lists);
+}
+
 /* Every row has every column, the last one first: the most work for the sorting. */
 static threshcinch_graph dense(size_t rows) {
   uint64_t *starts = (uint64_t *)calloc(rows + 1, sizeof *starts);
@@ -149,7 +175,7 @@ static threshcinch_graph dense(size_t rows) {
 
 int main(void) {
   const threshcinch_graph one_row = dense(1), large_rows = dense(200), small_rows = ring(30), full = dense(32);
-  Most most = {0, 0, 0, 0, 0, 0, 0, 0};
+  Most most = {0, 0, 0, 0, 0, 0, 0, 0, 0, 0};
   Call idle;
   memset(&idle, 0, sizeof idle);
   /* with one row columns collapse, so that they are refreshed and zeroed */
@@ -158,11 +184,17 @@ int main(void) {
   measure(1, &large_rows, &most);
   measure_texts(7, &one_row, &most);
   measure_texts(7, &full, &most);
+  /* entries in rising order, and in none, so that repeats are looked for and rows are sorted */
+  measure_market("%%MatrixMarket matrix coordinate pattern symmetric\n3 3 3\n2 1\n3 1\n3 3\n", &most);
+  measure_market("%%MatrixMarket matrix coordinate pattern symmetric\n3 3 3\n3 3\n3 1\n2 1\n", &most);
   printf("stack: the one call %zu bytes, opening %zu, a chunk %zu, closing %zu, calls owed %zu; a thread that calls nothing %zu\n", most.embed,
          most.open, most.chunk, most.close, most.owed, used(&idle, nothing));
   printf("stack: writing a run file %zu bytes, reading one %zu, writing an answer %zu\n", most.write_file, most.read_file, most.write_answer);
-  const size_t all[] = {most.embed, most.open, most.chunk, most.close, most.owed, most.write_file, most.read_file, most.write_answer};
+  printf("stack: reading a Matrix Market file %zu bytes, the room for one %zu\n", most.market, most.market_sizes);
+  const size_t all[] = {most.embed,      most.open,      most.chunk,        most.close,       most.owed,
+                        most.write_file, most.read_file, most.write_answer, most.market_sizes};
   for (size_t at = 0; at < sizeof all / sizeof *all; at++)
     if (all[at] > SAID) fail("a call takes more than the %d bytes that the header says", SAID);
+  if (most.market > MARKET_SAID) fail("reading a Matrix Market file takes more than the %d bytes that the header says", MARKET_SAID);
   return 0;
 }

@@ -59,6 +59,13 @@ class Installed(unittest.TestCase):
             text = threshcinch.write_run(ring(50), 3).decode()
             self.assertEqual(self.run_command(COMMAND, "run-file", graph, "--dims", "3"), (0, text, ""))
 
+    def test_matrix_market(self):
+        with tempfile.TemporaryDirectory() as folder:
+            graph = os.path.join(folder, "graph.mtx")
+            pathlib.Path(graph).write_bytes(b"%%MatrixMarket matrix coordinate pattern symmetric\n3 3 2\n2 1\n3 2\n")
+            digest = threshcinch.graph_digest(threshcinch.read_matrix_market(graph))
+            self.assertEqual(self.run_command(COMMAND, "digest", graph), (0, f"graph {digest} {graph}\n", ""))
+
     def test_status(self):
         status, out, err = self.run_command(COMMAND, "digest", "nothing")
         self.assertEqual((status, out, err), (1, "", "threshcinch: [Errno 2] No such file or directory: 'nothing'\n"))

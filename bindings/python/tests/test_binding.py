@@ -16,7 +16,7 @@ import numpy as np
 from scipy import sparse
 
 import threshcinch
-from threshcinch import Counts, Refusal, _graph, _library, _refusal, _text, read_run, spectral_embedding, write_answer, write_run
+from threshcinch import Counts, Refusal, _graph, _library, _refusal, _text, read_matrix_market, read_run, spectral_embedding, write_answer, write_run
 
 from .common import PACKAGE, ROOT, VECTORS, Case, Stop, Watch, bits, csr, digest, oracle_runs, random_graph, ring, splitmix
 
@@ -472,6 +472,16 @@ class Environments(Case):
         self.assertIn(b"seed_std=0000000000000001\n", expected[0])
         for name, found in self.in_each(work):
             self.assertEqual(found, expected, name)
+
+    def test_matrix_market(self):
+        """A graph is read as in the default environment, its values too."""
+
+        def work():
+            graph = read_matrix_market(b"%%MatrixMarket matrix coordinate pattern symmetric\n2 2 2\n2 2\n2 1\n")
+            return graph.indptr.tolist(), graph.indices.tolist(), graph.data.tobytes()
+
+        for name, found in self.in_each(work):
+            self.assertEqual(found, ([0, 1, 3], [1, 0, 1], np.ones(3).tobytes()), name)
 
     def test_a_thread_has_its_makers_environment(self):
         expected = spectral_embedding(self.graph, **self.words)

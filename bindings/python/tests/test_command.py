@@ -20,6 +20,7 @@ import threshcinch
 from threshcinch import Run, _command, graph_digest, read_run, seed_digest, spectral_embedding, write_run
 from threshcinch._bar import bar
 from threshcinch._look import warnings_about
+from threshcinch._refusal import WORDS
 
 from .common import HERE, KINDS, PACKAGE, bits, csr, random_graph
 
@@ -289,6 +290,105 @@ class RunFiles(Files):
         self.output_file = Slow
         status, _, err = self.run_file(self.graph, "--dims", 2)
         self.assertEqual((status, b"".join(taken), err), (0, write_run(self.graph), ""))
+
+
+class Markets(Files):
+    """Matrix Market files, wherever a graph is named."""
+
+    banner = "%%MatrixMarket matrix coordinate pattern symmetric\n"
+    lines = "% four in a ring, and a fifth\n5 5 5\n2 1\n3 2\n4 3\n4 1\n5 4\n"
+    graph_read = csr([0, 2, 4, 6, 9, 10], [1, 3, 0, 2, 1, 3, 0, 2, 4, 3], [1.0] * 10)
+
+    def market(self, lines=lines, banner=banner, name="graph.mtx"):
+        path = pathlib.Path(self.path(name))
+        path.write_bytes((banner + lines).encode())
+        return str(path)
+
+    def commands(self, path, *words):
+        """Each that takes a graph and parameters."""
+        return (("seed", path, "-o", self.output, *words), ("run-file", path, *(words if "--dims" in words else ("--dims", 2, *words))))
+
+    def test_seed(self):
+        path = self.market()
+        status, out, err = self.command("seed", path, "-o", self.output, "--dims", 3)
+        seed, _ = spectral_embedding(self.graph_read, 3)
+        np.testing.assert_array_equal(bits(np.load(self.output)), bits(seed))
+        self.assertEqual(status, 0)
+        self.assertIn("5 rows, 10 entries; 3 numbers a row, ", out)
+        self.assertEqual(out.splitlines()[2:], [f"graph {graph_digest(self.graph_read)} {path}", f"seed {seed_digest(seed)} {self.output}"])
+        # all but the file's name is as for the same graph from .npz
+        other = self.command("seed", self.stored(self.graph_read), "-o", self.output, "--dims", 3)
+        self.assertEqual((status, out.replace("graph.mtx", "graph.npz"), err), other)
+
+    def test_run_file(self):
+        self.assertEqual(self.command("run-file", self.market(), "--dims", 2), (0, write_run(self.graph_read).decode(), ""))
+
+    def test_digest(self):
+        path, digest = self.market(), graph_digest(self.graph_read)
+        self.assertEqual(self.command("digest", path), (0, f"graph {digest} {path}\n", ""))
+        wrong = self.market("5 5 5\n", name="wrong.mtx")
+        status, out, err = self.command("digest", wrong, path)
+        self.assertEqual((status, out), (1, f"graph {digest} {path}\n"))
+        self.assertEqual(err, f"threshcinch: {wrong}: refusal 19 at line 3: {WORDS[19]}\n")
+
+    def test_by_banner_and_by_name(self):
+        """A file that has the banner may have any name; one that is named so is told what is wrong with its banner."""
+        for name in ("graph", "graph.txt", "graph.npz"):
+            self.assertEqual(self.command("digest", self.market(name=name))[0], 0)
+        for name in ("other.mtx", "OTHER.MTX"):
+            for banner in ("", "%", "%%matrixMarket matrix coordinate pattern symmetric\n", "\n" + self.banner):
+                self.refused(rf"{name}: refusal 19 at line 1: {WORDS[19]}", "digest", self.market(banner=banner, name=name))
+        self.refused("empty.mtx: refusal 19 at line 1", "digest", self.market("", "", "empty.mtx"))
+        self.refused("other.txt: neither a graph .*Matrix Market file", "digest", self.market(banner="%", name="other.txt"))
+        self.assertEqual(self.command("digest", self.stored(self.graph, "zip.npz"))[0], 0)
+        os.rename(self.path("zip.npz"), self.path("zip.mtx"))
+        self.assertEqual(self.command("digest", self.path("zip.mtx"))[0], 0)
+
+    def test_19(self):
+        for line, lines in ((2, ""), (2, "2 3 1\n1 1\n"), (3, "5 5 1\n4 5\n"), (4, "5 5 2\n5 4\n5 4\n"), (4, "5 5 1\n5 4\n5 5\n"), (4, "5 5 2\n5 4\n")):
+            for words in self.commands(self.market(lines, name="wrong.mtx")):
+                self.refused(rf"wrong\.mtx: refusal 19 at line {line}: {WORDS[19]}", *words)
+        self.assertFalse(os.path.exists(self.output))
+
+    def test_19_comes_before_what_is_wrong_with_the_parameters(self):
+        path = self.market("5 5 1\n4 5\n")
+        for wrong in (("--dims", 8), ("--dims", -1), ("--rounds", 0), ("--rounds", 401), ("--rounds", 1001), ("--degree", 0), ("--seed-std", "nan")):
+            for words in self.commands(path, *wrong):
+                self.refused("refusal 19 at line 3", *words)
+        # and of a file that is one
+        for number, wrong in ((1, ("--dims", 8)), (9, ("--degree", 0)), (10, ("--seed-std", "nan"))):
+            for words in self.commands(self.market(), *wrong):
+                self.refused(f"refusal {number} at 0", *words)
+
+    def test_2_and_3(self):
+        """They too are the file's, and come before those of the parameters."""
+        for number, lines in ((2, "0 0 0\n"), (3, "1048577 1048577 1\n7 7\n")):
+            for words in self.commands(self.market(lines), "--dims", 8):
+                self.refused(rf"graph\.mtx: refusal {number} at 0: {WORDS[number]}", *words)
+
+    def test_warnings(self):
+        path = self.market("5 5 3\n2 1\n3 2\n5 4\n")
+        for words in self.commands(path):
+            status, _, err = self.command(*words)
+            self.assertEqual(status, 0)
+            self.assertIn("threshcinch: warning: the graph has 2 components", err)
+            self.assertNotIn("symmetric", err)
+
+    def test_stop_and_resume(self):
+        """The same graph from either file: a run that was left over one goes on over the other."""
+        save = self.output + ".held"
+        Run.open(self.graph_read).save(save)
+        status, out, _ = self.command("seed", self.market(), "-o", self.output, "--resume")
+        self.assertEqual((status, out.split()[-2]), (0, seed_digest(spectral_embedding(self.graph_read)[0])))
+        self.assertFalse(os.path.exists(save))
+
+    def test_help(self):
+        for command in ("seed", "run-file"):
+            status, out, _ = self.command(command, "--help")
+            self.assertEqual(status, 0)
+            for words in ("Matrix Market file of the kind coordinate pattern symmetric", "refused by 19 at its first line at fault"):
+                self.assertIn(words, out)
+        self.assertIn("(.npz, .mtx)", self.command("digest", "--help")[1])
 
 
 class RefusedWords(Files):

@@ -17,13 +17,15 @@ environment too: conversions to float64 and the library's calls are made in the 
                             SHA-256 of a graph and of a seed, by which two people see that they have the same
     write_run, read_run     a run file, the text that the program `seedrun` reads, of a graph, and back as a RunFile
     write_answer            what `seedrun` prints, of a seed or a refusal
+    read_matrix_market      the graph of a Matrix Market file
     python3 -m threshcinch  the command; installed also as `threshcinch`
 """
 from ._digest import graph_digest, seed_digest
+from ._market import read_matrix_market
 from ._refusal import LoadError, Refusal
 from ._run import Counts, Embedding, Progress, Run, spectral_embedding
 from ._text import RunFile, read_run, write_answer, write_run
 
-__version__ = "0.3.3"
-__all__ = ["Counts", "Embedding", "LoadError", "Progress", "Refusal", "Run", "RunFile", "graph_digest", "read_run", "seed_digest"]
-__all__ += ["spectral_embedding", "write_answer", "write_run"]
+__version__ = "0.3.4"
+__all__ = ["Counts", "Embedding", "LoadError", "Progress", "Refusal", "Run", "RunFile", "graph_digest", "read_matrix_market", "read_run"]
+__all__ += ["seed_digest", "spectral_embedding", "write_answer", "write_run"]

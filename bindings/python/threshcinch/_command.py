@@ -27,7 +27,13 @@ STATUS = """\
 Status: 0; 1 where a file, a graph or a saved run is refused, with words on standard error; 2 where the command's own words are not
 understood; 130 or 143 where Ctrl-C or a request to end (SIGTERM) stopped the run."""
 
-SEED = """\
+# Said of GRAPH by both commands that take one.
+MARKET = """\
+GRAPH may also be a Matrix Market file of the kind coordinate pattern symmetric, known by its banner or by a name that ends in .mtx. Each
+entry becomes 1.0, off the diagonal it is placed in both rows, and a row's entries rise by column. The file is tested before all that is
+asked of it: it is refused by 19 at its first line at fault, then by 2 for no rows and by 3 for too many rows or entries."""
+
+SEED = f"""\
 Writes the spectral seed of a stored graph, an n x D array of float64, as NumPy's .npy, and prints what was asked, what the run did, and
 the digests of graph and seed.
 
@@ -36,13 +42,15 @@ GRAPH is what scipy.sparse.save_npz writes. CSR is taken as it stands, entries i
 symmetric, several components, zeroed columns, isolated rows that have entries. A row is isolated where the root of its degree is not above
 1e-12, or is NaN; rows with no entries are among them.
 
+{MARKET}
+
 --record writes the Ritz record, which shows how the spectrum settled, as NumPy's .npy: an array of float64 with a row for each round, the bound
 that the round's filter used and then its D + 8 Ritz values, falling, NaN last.
 
 Ctrl-C leaves the run in a file, SEED.npy.held or what --save names. The same command with --resume goes on from there to the same bits, and
 removes the file once the seed is written."""
 
-RUN_FILE = """\
+RUN_FILE = f"""\
 Writes a stored graph, D and the parameters as a run file to standard output: the seven lines that the program `seedrun` reads and makes a
 seed of. Values and seed_std are there with all their bits, so that it is the seed that `threshcinch seed` writes.
 
@@ -50,9 +58,11 @@ GRAPH is what scipy.sparse.save_npz writes. CSR is taken as it stands, entries i
 .tocsr(), with a word on standard error. Also on standard error, and never in the text: columns twice in a row, a graph that is not
 symmetric, several components.
 
-A run file has at most 64 rows, 1,024 entries and 400 rounds. More is refused by 17, at the line that would have it, before all else; then
-the graph and the numbers are tested as for a seed, 1 to 10. A refusal's number, place and words go to standard error, and nothing to
-standard output."""
+{MARKET}
+
+A run file has at most 64 rows, 1,024 entries and 400 rounds. More is refused by 17, at the line that would have it, before all else but what
+a file is refused by when it is read; then the graph and the numbers are tested as for a seed, 1 to 10. A refusal's number, place and words go
+to standard error, and nothing to standard output."""
 
 # What a line of a run file holds at most, for people: the library refuses more by that line.
 LINE_SIZES = {2: "rounds, at most 400", 5: "at most 64 rows", 6: "at most 1,024 entries", 7: "at most 1,024 entries"}
@@ -95,7 +105,7 @@ def _add_seed(commands) -> None:
     form = argparse.RawDescriptionHelpFormatter
     parser = commands.add_parser("seed", help="the seed of a stored graph", description=SEED, epilog=_epilog(), formatter_class=form)
     parser.set_defaults(work=seed)
-    parser.add_argument("graph", metavar="GRAPH", help="the graph, as scipy.sparse.save_npz writes it")
+    parser.add_argument("graph", metavar="GRAPH", help="the graph, as scipy.sparse.save_npz writes it, or a Matrix Market file")
     parser.add_argument("-o", "--output", metavar="SEED.npy", required=True, help="where the seed goes")
     parser.add_argument("--dims", type=int, metavar="D", help="numbers a row of the seed has, 1 to 7 (2)")
     _add_params(parser, "1,000")
@@ -115,14 +125,14 @@ def _add_run_file(commands) -> None:
     form = argparse.RawDescriptionHelpFormatter
     parser = commands.add_parser("run-file", help="a stored graph as a run file", description=RUN_FILE, epilog=STATUS, formatter_class=form)
     parser.set_defaults(work=run_file)
-    parser.add_argument("graph", metavar="GRAPH", help="the graph, as scipy.sparse.save_npz writes it")
+    parser.add_argument("graph", metavar="GRAPH", help="the graph, as scipy.sparse.save_npz writes it, or a Matrix Market file")
     parser.add_argument("--dims", type=int, metavar="D", required=True, help="numbers a row of the seed has, 1 to 7")
     _add_params(parser, "400")
 
 
 def _add_digest(commands) -> None:
     form = argparse.RawDescriptionHelpFormatter
-    about = "Prints a line for each stored graph (.npz) and seed (.npy): 'graph' or 'seed', its digest, and the file's name."
+    about = "Prints a line for each stored graph (.npz, .mtx) and seed (.npy): 'graph' or 'seed', its digest, and the file's name."
     parser = commands.add_parser("digest", help="digests of stored graphs and seeds", description=about, epilog=_epilog(), formatter_class=form)
     parser.set_defaults(work=digest)
     parser.add_argument("files", metavar="FILE", nargs="+")

@@ -68,9 +68,17 @@ class RunFile(ctypes.Structure):
     ]
 
 
+class MatrixMarket(ctypes.Structure):
+    _fields_ = [("verdict", Verdict), ("rows", c_size_t), ("entries", c_size_t)]
+
+
+class MatrixMarketRoom(ctypes.Structure):
+    _fields_ = [("verdict", Verdict), ("starts", c_size_t), ("entries", c_size_t)]
+
+
 # Records cross by value, so a size that is not the header's would pass numbers at wrong places.
 SIZES = {Verdict: 16, Params: 24, Sizes: 104, Asked: 48, Progress: 88, Counts: 32, State: 5688, Answer: 5704, Embedded: 48}
-SIZES.update({Written: 24, RunFile: 12880})
+SIZES.update({Written: 24, RunFile: 12880, MatrixMarket: 32, MatrixMarketRoom: 32})
 for _record, _size in SIZES.items():
     assert ctypes.sizeof(_record) == _size, f"{_record.__name__} has {ctypes.sizeof(_record)} bytes, not the header's {_size}"
 
@@ -98,6 +106,8 @@ _FUNCTIONS = {
     "threshcinch_write_run": (Written, [c_uint64, Params] + _GRAPH + _LIST),
     "threshcinch_read_run": (RunFile, _LIST),
     "threshcinch_write_answer": (Written, [Verdict, c_uint64, c_size_t, Counts] + _LIST * 2),
+    "threshcinch_read_matrix_market": (MatrixMarket, _LIST + _GRAPH),
+    "threshcinch_matrix_market_sizes": (MatrixMarketRoom, _LIST),
 }
 _NAME = "libthreshcinch.so"
 # How the version of a library begins that has these records and functions in this form. Its soname ends so too.

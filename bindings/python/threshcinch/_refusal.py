@@ -21,6 +21,7 @@ WORDS = {
     16: "the state, or a list for it, is damaged",
     17: "the text is not a run file, or more than one holds",
     18: "the text has too little room",
+    19: "the text is not a Matrix Market file of the kind coordinate pattern symmetric",
 }
 
 # The numbers that this package tells apart.
@@ -28,11 +29,12 @@ ROUNDS = 8
 NO_CHUNK = 12
 NO_RUN = 15
 TEXT = 17
+MATRIX_MARKET = 19
 
 
 class Refusal(ValueError):
-    """The library refused the input: `number` (document 01's), `place` (the row start's, entry's or chunk's index, the line of a run file from
-    1, else 0) and `words`."""
+    """The library refused the input: `number` (document 01's), `place` (the row start's, entry's or chunk's index, the line of a run file or of a
+    Matrix Market file from 1, else 0) and `words`."""
 
     def __init__(self, number: int, place: int) -> None:
         super().__init__(number, place)

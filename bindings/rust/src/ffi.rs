@@ -143,6 +143,20 @@ pub(crate) struct RunRead {
     pub values: [f64; 1024],
 }
 
+#[repr(C)]
+pub(crate) struct MarketRead {
+    pub verdict: Verdict,
+    pub rows: usize,
+    pub entries: usize,
+}
+
+#[repr(C)]
+pub(crate) struct MarketRoom {
+    pub verdict: Verdict,
+    pub starts: usize,
+    pub entries: usize,
+}
+
 // The header's own assertions, so that a record that drifts from it does not compile.
 const _: () = {
     assert!(size_of::<usize>() == 8 && size_of::<f64>() == 8);
@@ -163,6 +177,10 @@ const _: () = {
     assert!(offset_of!(RunRead, d) == 16 && offset_of!(RunRead, params) == 24);
     assert!(offset_of!(RunRead, start_count) == 48 && offset_of!(RunRead, starts) == 72);
     assert!(offset_of!(RunRead, columns) == 592 && offset_of!(RunRead, values) == 4688);
+    assert!(size_of::<MarketRead>() == 32);
+    assert!(offset_of!(MarketRead, rows) == 16 && offset_of!(MarketRead, entries) == 24);
+    assert!(size_of::<MarketRoom>() == 32);
+    assert!(offset_of!(MarketRoom, starts) == 16 && offset_of!(MarketRoom, entries) == 24);
 };
 
 extern "C" {
@@ -197,6 +215,17 @@ extern "C" {
         text: *mut u8,
         text_length: usize,
     ) -> Written;
+    pub(crate) fn threshcinch_read_matrix_market(
+        text: *const u8,
+        text_length: usize,
+        starts: *mut u64,
+        starts_length: usize,
+        columns: *mut u32,
+        columns_length: usize,
+        values: *mut f64,
+        values_length: usize,
+    ) -> MarketRead;
+    pub(crate) fn threshcinch_matrix_market_sizes(text: *const u8, text_length: usize) -> MarketRoom;
 }
 
 /// Declares calls that take, after their own arguments, the graph's three lists and the eleven lent ones, each as address and length.

@@ -18,7 +18,7 @@
 //! ```
 //!
 //! Run files, which the text program `seedrun` reads, are written and read as bytes ([`write_run`], [`read_run`]), and so is what it prints
-//! ([`write_answer`]).
+//! ([`write_answer`]). A Matrix Market file, again as bytes, is read as a graph ([`read_matrix_market`]).
 //!
 //! Nothing here panics, whatever it is given. Input that cannot be taken is a [`Refusal`]: a number and a place, the number also as a
 //! [`Reason`] to match on.
@@ -36,6 +36,7 @@ mod arithmetic;
 pub mod bhtsne;
 mod drive;
 mod ffi;
+mod market;
 mod memory;
 mod params;
 mod record;
@@ -49,6 +50,7 @@ mod version;
 
 pub use drive::Driven;
 pub use ffi::{Asked, Counts, State, StateProgress};
+pub use market::{read_matrix_market, OwnedGraph};
 pub use memory::{Graph, Memory};
 pub use params::Params;
 pub use record::RitzRecord;

@@ -43,7 +43,7 @@ pub enum Reason {
     Degree = 9,
     /// The seed's standard deviation is not positive and finite.
     SeedStd = 10,
-    /// Lent memory is too short, or the machine has not so much. Place: the first such list, 0 to 10.
+    /// Lent memory is too short, or the machine has not so much. Place: the first such list, 0 to 10; of a graph that is read 0 to 2.
     Memory = 11,
     /// The chunk number is not below the number of chunks. Place: the number offered.
     NoChunk = 12,
@@ -59,10 +59,12 @@ pub enum Reason {
     Text = 17,
     /// The text has too little room for what is to be written.
     Room = 18,
+    /// The bytes are no Matrix Market file (coordinate, pattern, symmetric). Place: the first line at fault, from 1.
+    MatrixMarket = 19,
 }
 
 impl Reason {
-    const ALL: [Reason; 18] = [
+    const ALL: [Reason; 19] = [
         Reason::Dims,
         Reason::NoRows,
         Reason::Limits,
@@ -81,6 +83,7 @@ impl Reason {
         Reason::Damaged,
         Reason::Text,
         Reason::Room,
+        Reason::MatrixMarket,
     ];
 
     /// Document 01's number.
@@ -114,6 +117,7 @@ impl Reason {
             Reason::Damaged => "the state, or a list for it, is damaged",
             Reason::Text => "the text is not a run file, or more than one holds",
             Reason::Room => "the text has too little room",
+            Reason::MatrixMarket => "the text is not a Matrix Market file of the kind coordinate pattern symmetric",
         }
     }
 
@@ -124,7 +128,7 @@ impl Reason {
             Reason::Column | Reason::Value => Some("entry"),
             Reason::Memory => Some("list"),
             Reason::NoChunk | Reason::ChunkDone | Reason::ChunksLeft => Some("chunk"),
-            Reason::Text => Some("line"),
+            Reason::Text | Reason::MatrixMarket => Some("line"),
             _ => None,
         }
     }
@@ -138,7 +142,7 @@ impl Reason {
 /// A refusal: document 01's number, and the place that it speaks of. A refused call has changed nothing.
 #[derive(Clone, Copy, Debug, PartialEq, Eq)]
 pub struct Refusal {
-    /// 1 to 18, as [`Reason`] names them.
+    /// 1 to 19, as [`Reason`] names them.
     pub number: u64,
     /// An index, an entry, a list, a chunk or a line, as the number has it; 0 where there is none.
     pub place: u64,

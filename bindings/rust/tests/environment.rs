@@ -11,7 +11,8 @@ use std::ptr::from_mut;
 
 use common::{assert_same_memory, bits, quick};
 use threshcinch::{
-    read_run, spectral_embedding, spectral_embedding_in, write_answer, write_run, Driven, Graph, Memory, Params, Progress, Run,
+    read_matrix_market, read_run, spectral_embedding, spectral_embedding_in, write_answer, write_run, Driven, Graph, Memory, Params,
+    Progress, Run,
 };
 
 /// Values of the control register MXCSR, and whether the bare call has other bits there; nothing where it would trap.
@@ -264,6 +265,14 @@ fn texts_have_the_defaults_bytes() {
         || (read_run(&file).and_then(|read| write_run(&read.graph(), read.dims, read.params()?)), write_answer(Ok(&seed))),
         |found, name| assert_eq!(found, (Ok(file.clone()), Ok(answer.clone())), "{name}"),
     );
+}
+
+#[test]
+fn a_matrix_market_file_is_read_as_in_the_default() {
+    let text = b"%%MatrixMarket matrix coordinate pattern symmetric\n2 2 2\n2 2\n2 1\n";
+    let expected = read_matrix_market(text).unwrap();
+    assert_eq!(bits(&expected.values), [1f64.to_bits(); 3]);
+    in_each_environment(|| read_matrix_market(text), |found, name| assert_eq!(found.as_ref(), Ok(&expected), "{name}"));
 }
 
 #[test]

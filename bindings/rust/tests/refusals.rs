@@ -1,5 +1,5 @@
 //! Each refusal that can be met from Rust, with its place: 8, 9 and 10 from the setters (tests/numbers.rs), 17 and 18 from what reads and
-//! writes text (tests/texts.rs), the others here.
+//! writes text (tests/texts.rs), 19 from the reader of Matrix Market files (tests/market.rs), the others here.
 
 mod common;
 
@@ -151,13 +151,17 @@ fn number_14_names_the_lowest_chunk() {
 
 #[test]
 fn words() {
-    let all: std::collections::HashSet<&str> = (1..=18).map(|number| refusal(number, 0).words()).collect();
-    assert_eq!(all.len(), 18, "each has words of its own");
-    assert!(!all.contains(refusal(0, 0).words()) && refusal(19, 0).words() == refusal(0, 0).words());
+    let all: std::collections::HashSet<&str> = (1..=19).map(|number| refusal(number, 0).words()).collect();
+    assert_eq!(all.len(), 19, "each has words of its own");
+    assert!(!all.contains(refusal(0, 0).words()) && refusal(20, 0).words() == refusal(0, 0).words());
     assert_eq!(refusal(6, 4).to_string(), "refusal 6: a column is not below the number of rows (entry 4)");
     assert_eq!(refusal(15, 0).to_string(), "refusal 15: no run is open");
     assert_eq!(refusal(17, 2).to_string(), "refusal 17: the text is not a run file, or more than one holds (line 2)");
     assert_eq!(refusal(18, 0).to_string(), "refusal 18: the text has too little room");
+    assert_eq!(
+        refusal(19, 4).to_string(),
+        "refusal 19: the text is not a Matrix Market file of the kind coordinate pattern symmetric (line 4)"
+    );
     let _: &dyn std::error::Error = &refusal(1, 0);
 }
 
@@ -182,7 +186,7 @@ fn header_name(reason: Reason) -> String {
 
 #[test]
 fn reasons_are_the_headers() {
-    for number in 1..=18 {
+    for number in 1..=19 {
         let reason = Reason::of_number(number).expect("a reason for each number");
         assert_eq!(reason.number(), number);
         // The last one has no comma.
@@ -190,7 +194,7 @@ fn reasons_are_the_headers() {
         assert_eq!(named, Some(number.to_string().as_str()), "{reason:?} in the header");
         assert_eq!(header_line(&format!("case {number}: return \""), "\";"), Some(reason.words()));
     }
-    assert!([0, 19, u64::MAX].into_iter().all(|number| Reason::of_number(number).is_none()));
+    assert!([0, 20, u64::MAX].into_iter().all(|number| Reason::of_number(number).is_none()));
 }
 
 #[test]
@@ -199,5 +203,5 @@ fn a_refusal_has_its_reason() {
     assert_eq!(Params::new().rounds(0).unwrap_err().reason(), Some(Reason::Rounds));
     assert_eq!(Params::new().degree(1001).unwrap_err().reason(), Some(Reason::Degree));
     assert_eq!(Params::new().seed_std(f64::NAN).unwrap_err().reason(), Some(Reason::SeedStd));
-    assert_eq!(refusal(19, 3).reason(), None);
+    assert_eq!(refusal(20, 3).reason(), None);
 }
