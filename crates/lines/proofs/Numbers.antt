@@ -51,7 +51,7 @@ every-step : (b : ℕ) (bs : List ℕ) (t : Bool) → isDigit b ≡ t → every 
 unfolding every
 every-step b bs t h = ap (λ (s : Bool). s && every isDigit bs) h
 
-every-nil : every isDigit [] ≡ true
+pub every-nil : every isDigit [] ≡ true
 unfolding every
 every-nil = refl
 

@@ -65,7 +65,7 @@ words-cons b bs t p q =
 abbrev FirstWord : List ℕ → List ℕ → Type 0
 FirstWord xs w = wordsOf xs ≡ w ∷ wordsOf (drop (length w) xs)
 
-first-word : (xs : List ℕ) → goesOn xs ≡ true → FirstWord xs (run goesOn xs)
+pub first-word : (xs : List ℕ) → goesOn xs ≡ true → FirstWord xs (run goesOn xs)
 unfolding onFirst
 first-word [] h = absurd (false≢true (sym goes-nil ∙ h))
 first-word (b ∷ bs) h =

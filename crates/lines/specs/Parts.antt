@@ -5,15 +5,19 @@ use mathlib.Core.Path.{_≡_}
 use Prim.Native.Nat.{ℕ, _+_, _≤_, _<_}
 use lib.Dec.{eqb}
 use lib.ListN.{length, drop}
+use Rattle.digits.specs.Digits.{part, every, isDigit}
 use Rattle.lines.specs.Lines.{begins, goesOn, wordsOf}
-use Rattle.lines.specs.Kinds.{valueOf, isNumber, areNumbers, kindBy}
+use Rattle.lines.specs.Kinds.{largest, valueOf, isNumber, areNumbers, kindBy}
 use Rattle.lines.specs.Banner.{sameBy, isLetter, areWords, matrixWord, coordinateWord, patternWord, symmetricWord}
+use Rattle.lines.specs.Read.{ReadsLine}
 use Rattle.lines.specs.declared.Kind.{Kind}
-use Rattle.lines.specs.declared.Kind.the-variants.{Other}
+use Rattle.lines.specs.declared.Kind.the-variants.{Entry, Other}
 use Rattle.lines.specs.declared.NumberRead.{NumberRead}
 use Rattle.lines.specs.declared.NumberRead.the-variants.{Found, None, Wrong}
 use Rattle.lines.specs.declared.WordRead.{WordRead}
 use Rattle.lines.specs.declared.WordRead.the-variants as W
+use Rattle.lines.specs.declared.PlainRead.{PlainRead}
+use Rattle.lines.specs.declared.PlainRead.the-variants as P
 
 -- the bytes at the front, up to where what is left does not go on
 unfoldable pub run : (List ℕ → Bool) → List ℕ → List ℕ
@@ -82,3 +86,16 @@ ReadsWord test line from W.Wrong = (tests : List (List ℕ → Bool)) → areWor
 -- the words behind the banner's first
 abbrev pub fourTests : List (List ℕ → Bool)
 fourTests = sameBy isLetter matrixWord ∷ sameBy isLetter coordinateWord ∷ sameBy isLetter patternWord ∷ sameBy isLetter symmetricWord ∷ []
+
+-- the bytes from `from` up to `next` are digits, and their number is `value`
+pub record ReadsDigits (text : List ℕ) (from value next : ℕ) : Type 0 where
+  pub on : from ≤ next
+  pub within : from ≤ length text → next ≤ length text
+  pub digits : every isDigit (part from next text) ≡ true
+  pub is : valueOf (part from next text) ≡ value
+  pub small : value ≤ largest
+
+-- the line that begins at `at`, where it is a plain one; of any other nothing is said
+abbrev pub ReadsPlain : List ℕ → ℕ → PlainRead → Type 0
+ReadsPlain text at (P.Entry row column next) = ReadsLine text at (record { kind = Entry row column; next = next })
+ReadsPlain text at P.Other = Unit

@@ -9,7 +9,7 @@ ghost use Rattle.lines.specs.Lines.{begins, holds, isBlank, wordsOf};
 ghost use Rattle.lines.specs.Kinds.{valueOf, largest, kindOf, numbersIn};
 ghost use Rattle.lines.specs.Banner.{sameBy, areWords, isBanner};
 ghost use Rattle.lines.specs.Read.{ReadsLine, ReadsBanner};
-ghost use Rattle.lines.specs.Parts.{lineGoesOn, wordAt, lineAt, endLength, Skips, numberOf, ReadsNumber, kindWith, sameAs, ReadsWord, fourTests};
+ghost use Rattle.lines.specs.Parts.{lineGoesOn, wordAt, lineAt, endLength, Skips, numberOf, ReadsNumber, kindWith, sameAs, ReadsWord, fourTests, ReadsDigits, ReadsPlain};
 
 // Behind the banner: nothing, a comment, two numbers, three numbers, or what no line may say.
 pub enum Kind {
@@ -43,6 +43,18 @@ enum NumberRead {
 enum WordRead {
     Right(usize),
     Wrong,
+}
+
+// Digits as a number, and the place behind them.
+struct DigitsRead {
+    value: u64,
+    next: usize,
+}
+
+// A line with just two numbers and one blank between them, and where the next line begins; or any other.
+enum PlainRead {
+    Entry { row: u64, column: u64, next: usize },
+    Other,
 }
 
 // No line has more bytes.
@@ -249,8 +261,10 @@ fn next_line(text: &[u8], end: usize) -> usize
     end + 2
 }
 
-// The line that begins at `at`.
-pub fn read_line(text: &[u8], at: usize) -> LineRead
+// ---- a line
+
+// A line that may say anything. Its end is found first, and then its bytes are gone over again.
+fn read_any_line(text: &[u8], at: usize) -> LineRead
     requires { ⌜ at < length (now text) ⌝ }
     ensures { λ r. ⌜ ReadsLine (now (text .entry)) at r ⌝ }
 {
@@ -258,6 +272,78 @@ pub fn read_line(text: &[u8], at: usize) -> LineRead
     let kind = kind_of(&text[at..end]);
     let next = next_line(text, end);
     LineRead { kind, next }
+}
+
+// The digits from `from` on, at most 18 of them behind leading zeros, so that nothing overflows: a line with more is no plain one.
+fn read_digits(text: &[u8], from: usize) -> DigitsRead
+    ensures { λ r. ⌜ ReadsDigits (now (text .entry)) from (r .value) (r .next) ⌝ }
+{
+    let mut value: u64 = 0;
+    let mut i = from;
+    while i < text.len() {
+        let b = text[i];
+        if !digits::is_digit(b) {
+            return DigitsRead { value, next: i };
+        }
+        if 100000000000000000 <= value {
+            return DigitsRead { value, next: i };
+        }
+        value = value * 10 + (b - b'0') as u64;
+        i += 1;
+    }
+    DigitsRead { value, next: i }
+}
+
+// Most lines of a file are plain ones, so these are gone over once.
+fn read_plain(text: &[u8], at: usize) -> PlainRead
+    requires { ⌜ at < length (now text) ⌝ }
+    ensures { λ r. ⌜ ReadsPlain (now (text .entry)) at r ⌝ }
+{
+    let first = read_digits(text, at);
+    let blank = first.next;
+    if blank == at {
+        return PlainRead::Other;
+    }
+    if text.len() <= blank {
+        return PlainRead::Other;
+    }
+    if !is_blank(text[blank]) {
+        return PlainRead::Other;
+    }
+    let from = blank + 1;
+    let second = read_digits(text, from);
+    let end = second.next;
+    if end == from {
+        return PlainRead::Other;
+    }
+    if BYTES_MOST < end - at {
+        return PlainRead::Other;
+    }
+    if end < text.len() {
+        if line_goes_on(text, end) {
+            return PlainRead::Other;
+        }
+    }
+    let next = next_line(text, end);
+    PlainRead::Entry {
+        row: first.value,
+        column: second.value,
+        next,
+    }
+}
+
+// The line that begins at `at`.
+pub fn read_line(text: &[u8], at: usize) -> LineRead
+    requires { ⌜ at < length (now text) ⌝ }
+    ensures { λ r. ⌜ ReadsLine (now (text .entry)) at r ⌝ }
+{
+    match read_plain(text, at) {
+        PlainRead::Entry { row, column, next } => LineRead {
+            kind: Kind::Entry(row, column),
+            next,
+        },
+        PlainRead::Other => read_any_line(text, at),
+    }
 }
 
 // ---- the banner

@@ -2,4 +2,5 @@
 pub mod Bools
 pub mod Passes
 pub mod Right
+pub mod Entries
 pub mod Starts

@@ -7,21 +7,20 @@ use Prim.Native.Nat.{ℕ, suc, _≤_, _<_}
 use native.Mathlib.Omega.{arith}
 use borrow.Author.Tests.{le-leb, lt-leb}
 use lib.Dec.{leb}
-use denote.Enum.Declared.{tagOf}
-use types.Run.{OneOf, miss}
+use types.Run.{miss}
 use Rattle.definition.proofs.Fill.{split}
-use Rattle.lines.proofs.Kind.{the-type}
 use Rattle.lines.specs.declared.Kind.{Kind}
 use Rattle.lines.specs.declared.Kind.the-variants as K
 use Rattle.market.specs.Market.{Entry}
 use Rattle.market.specs.Passes.{repeatFrom}
 use Rattle.market.proofs.Bools.{decide}
+use Rattle.market.proofs.Entries.{Other}
 use Rattle.market.proofs.Passes.{repeat-over}
 use Rattle.market.proofs.Right.{has-append}
 use Rattle.repeated.specs.Blocks.{hits, adding, meetFrom}
 
--- a line that is no entry, by its kind's number
-pub no-entry : (seen : List Entry) (x : Kind) → OneOf (0 ∷ 1 ∷ 3 ∷ 4 ∷ []) (tagOf the-type x) → (hits seen x ≡ false) × (adding seen x ≡ seen)
+-- a line that is no entry
+pub no-entry : (seen : List Entry) (x : Kind) → Other x → (hits seen x ≡ false) × (adding seen x ≡ seen)
 unfolding hits adding
 no-entry seen K.Blank h = (refl, refl)
 no-entry seen K.Comment h = (refl, refl)

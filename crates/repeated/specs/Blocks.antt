@@ -3,9 +3,16 @@ use mathlib.Core.Bool.{Bool, false, cond}
 use mathlib.Core.List.{List, [], _∷_, _++_}
 use Prim.Native.Nat.{ℕ, suc}
 use lib.Dec.{leb}
+use lib.ListN.{take}
+use Rattle.lines.specs.Kinds.{kindsAt}
 use Rattle.lines.specs.declared.Kind.{Kind}
 use Rattle.lines.specs.declared.Kind.the-variants as K
 use Rattle.market.specs.Market.{Entry, has}
+use Rattle.market.specs.Passes.{entriesIn}
+
+-- so many entries of a text, from a place on
+abbrev pub firstOf : List ℕ → ℕ → ℕ → List Entry
+firstOf text from count = take count (entriesIn (kindsAt text from))
 
 -- whether a line's entry is among some; and those with it behind them
 unfoldable pub hits : List Entry → Kind → Bool

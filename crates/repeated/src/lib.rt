@@ -1,20 +1,23 @@
 // Repeats among the entries of a Matrix Market text that stand in no rising order, looked for in bounded memory: block by block of the
 // entries, each in one pass over what stands behind it.
 ghost use mathlib.Core.Path.{_≡_};
-ghost use mathlib.Core.Bool.{_&&_};
+ghost use mathlib.Core.Bool.{false, _&&_};
 ghost use mathlib.Core.List.{[]};
-ghost use Prim.Native.Nat.{ℕ, _≤_, _<_};
+ghost use Prim.Native.Nat.{_+_, _≤_, _<_};
 ghost use lib.Dec.{eqb};
-ghost use lib.ListN.{length, getD};
+ghost use lib.ListN.{length};
+ghost use Rattle.lines.specs.Lines.{holds};
 ghost use Rattle.lines.specs.Kinds.{kindsAt};
 ghost use Rattle.market.specs.Market.{has};
 ghost use Rattle.market.specs.Passes.{repeatFrom};
-ghost use Rattle.repeated.specs.Blocks.{hits, meetFrom};
-ghost use Rattle.repeated.specs.Tables.{blockSize, hashOf, stored, Table, Room, Stores, Keeps, Fills, Passed};
+ghost use Rattle.repeated.specs.Blocks.{hits, firstOf, meetFrom};
+ghost use Rattle.repeated.specs.Tables.{places, keyOf, hashOf, stored, Table, Room, Clears, Stores, Keeps, Block, Fills, Passed};
 use lines::Kind;
 
-// The entries of a block.
-const BLOCK_SIZE: usize = 16384;
+// The places of a block. Place 0 is nobody's: a block has one entry less.
+const PLACES: usize = 32768;
+
+const ENTRIES_MOST: usize = 32767;
 
 // How many entries a block has, the place behind the last of them with the number of the line there, and the line to look up to.
 struct Filled {
@@ -31,120 +34,133 @@ struct Rest {
     limit: u64,
 }
 
-// ---- the entries of a block, in chains by their hashes: `heads` has 1 + the number of the last entry with a hash, `links` the same for
-// the one before an entry that has its hash; 0 is none
+// ---- the keys of a block's entries, in chains by their hashes: `heads` has the place of the last entry with a hash, `links` that of the
+// one before an entry that has its hash; 0 is none
 
-// A number below the block's size for each entry. The factors spread rows and columns that are near each other.
-fn hash(row: u64, column: u64) -> usize
-    ensures { λ r. ⌜ (r ≡ hashOf row column) × (r < blockSize) ⌝ }
+// Row and column in one number, so that a place has 8 bytes: all of both below 2^32, as they are in each file that is not refused by 3.
+fn key_of(row: u64, column: u64) -> u64
+    ensures { λ r. ⌜ r ≡ keyOf row column ⌝ }
 {
-    let x = (row % 4294967296) * 1000003 + column % 4294967296;
-    ((x % 4294967296) * 2654435769 / 262144 % 16384) as usize
+    row % 4294967296 * 4294967296 + column % 4294967296
 }
 
-// No entry has any hash.
-fn clear(heads: &mut [u32])
-    requires { ⌜ length (now heads) ≡ blockSize ⌝ }
-    ensures { λ _. ⌜ ((h : ℕ) → h < blockSize → getD (now (heads .exit)) h 0 ≡ 0) ⌝ }
+// A number below the number of places for each key. The factors spread rows and columns that are near each other.
+fn hash(key: u64) -> usize
+    ensures { λ r. ⌜ (r ≡ hashOf key) × (r < places) ⌝ }
 {
+    let x = key / 4294967296 * 1000003 + key % 4294967296;
+    (x % 4294967296 * 2654435769 / 131072 % 32768) as usize
+}
+
+// No entry has any hash, and a chain ends at place 0.
+fn clear(links: &mut [u16], heads: &mut [u16])
+    requires { ⌜ (length (now links) ≡ places) × (length (now heads) ≡ places) ⌝ }
+    ensures { λ _. ⌜ Clears (now (links .exit)) (now (heads .exit)) ⌝ }
+{
+    links[0] = 0;
     let mut h = 0;
-    while h < BLOCK_SIZE {
+    while h < PLACES {
         heads[h] = 0;
         h += 1;
     }
 }
 
-// Whether the entry i is this one.
-fn is_at(row: u64, column: u64, i: usize, rows: &[u64], columns: &[u64]) -> bool
-    requires { ⌜ (i < length (now rows)) × (i < length (now columns)) ⌝ }
-    ensures { λ r. ⌜ r ≡ (eqb (getD (now (rows .entry)) i 0) row && eqb (getD (now (columns .entry)) i 0) column) ⌝ }
+// Whether this key may be stored: where it is not, no entry has it. Place 0 is looked at as others are, so that the ways part seldom.
+fn look_up(key: u64, count: usize, keys: &[u64], links: &[u16], heads: &[u16]) -> bool
+    requires { ⌜ Table count (now keys) (now links) (now heads) ⌝ }
+    ensures { λ r. ⌜ (r ≡ false → holds key (stored (now (keys .entry)) count) ≡ false) ⌝ }
 {
-    if rows[i] == row {
-        return columns[i] == column;
-    }
-    false
-}
-
-// Whether this entry is stored.
-fn look_up(
-    row: u64,
-    column: u64,
-    count: usize,
-    rows: &[u64],
-    columns: &[u64],
-    links: &[u32],
-    heads: &[u32],
-) -> bool
-    requires { ⌜ Table count (now rows) (now columns) (now links) (now heads) ⌝ }
-    ensures { λ r. ⌜ r ≡ has (stored (now (rows .entry)) (now (columns .entry)) count) row column ⌝ }
-{
-    let h = hash(row, column);
-    let mut last = heads[h] as usize;
-    while 0 < last {
-        let i = last - 1;
-        if is_at(row, column, i, rows, columns) {
-            return true;
+    let h = hash(key);
+    let mut i = heads[h] as usize;
+    while keys[i] != key {
+        i = links[i] as usize;
+        if i == 0 {
+            return false;
         }
-        last = links[i] as usize;
     }
-    false
+    true
 }
 
-// Stores an entry behind those that are.
-fn store(
-    row: u64,
-    column: u64,
-    count: usize,
-    rows: &mut [u64],
-    columns: &mut [u64],
-    links: &mut [u32],
-    heads: &mut [u32],
-)
-    requires { ⌜ (count < blockSize) × Table count (now rows) (now columns) (now links) (now heads) ⌝ }
-    ensures { λ _. ⌜ Stores row column count (now (rows .entry)) (now (columns .entry)) (now (rows .exit)) (now (columns .exit)) (now (links .exit)) (now (heads .exit)) ⌝ }
+// Stores a key behind those that are.
+fn store(key: u64, count: usize, keys: &mut [u64], links: &mut [u16], heads: &mut [u16])
+    requires { ⌜ (count + 1 < places) × Table count (now keys) (now links) (now heads) ⌝ }
+    ensures { λ _. ⌜ Stores key count (now (keys .entry)) (now (keys .exit)) (now (links .exit)) (now (heads .exit)) ⌝ }
 {
-    let h = hash(row, column);
-    rows[count] = row;
-    columns[count] = column;
-    links[count] = heads[h];
-    heads[h] = count as u32 + 1;
+    let h = hash(key);
+    let place = count + 1;
+    keys[place] = key;
+    links[place] = heads[h];
+    heads[h] = place as u16;
 }
 
 // ---- lines
 
-// Whether a line's entry is stored.
+// Whether an entry is one of the first `count` from `from` on, which are read again.
+fn among_first(text: &[u8], from: usize, count: usize, row: u64, column: u64) -> bool
+    requires { ⌜ from ≤ length (now text) ⌝ }
+    ensures { λ r. ⌜ r ≡ has (firstOf (now (text .entry)) from count) row column ⌝ }
+{
+    let mut at = from;
+    let mut left = count;
+    while at < text.len() {
+        let line = lines::read_line(text, at);
+        at = line.next;
+        let kind = line.kind;
+        let Kind::Entry(r, c) = kind else {
+            continue;
+        };
+        if left == 0 {
+            return false;
+        }
+        if is_pair(r, c, row, column) {
+            return true;
+        }
+        left -= 1;
+    }
+    false
+}
+
+fn is_pair(a: u64, b: u64, row: u64, column: u64) -> bool
+    ensures { λ r. ⌜ r ≡ (eqb a row && eqb b column) ⌝ }
+{
+    if a == row {
+        return b == column;
+    }
+    false
+}
+
+// Whether a line's entry is one of the block's, which begins at `block`. Two entries may have one key: then the text decides.
 fn among(
     kind: Kind,
+    text: &[u8],
+    block: usize,
     count: usize,
-    rows: &[u64],
-    columns: &[u64],
-    links: &[u32],
-    heads: &[u32],
+    keys: &[u64],
+    links: &[u16],
+    heads: &[u16],
 ) -> bool
-    requires { ⌜ Table count (now rows) (now columns) (now links) (now heads) ⌝ }
-    ensures { λ r. ⌜ r ≡ hits (stored (now (rows .entry)) (now (columns .entry)) count) kind ⌝ }
+    requires { ⌜ (block ≤ length (now text)) × Block (now text) block count (now keys) (now links) (now heads) ⌝ }
+    ensures { λ r. ⌜ r ≡ hits (firstOf (now (text .entry)) block count) kind ⌝ }
 {
-    match kind {
-        Kind::Entry(row, column) => look_up(row, column, count, rows, columns, links, heads),
-        _ => false,
+    let Kind::Entry(row, column) = kind else {
+        return false;
+    };
+    let key = key_of(row, column);
+    if look_up(key, count, keys, links, heads) {
+        return among_first(text, block, count, row, column);
     }
+    false
 }
 
 // Stores a line's entry, if it has one, and says how many are stored then.
-fn keep(
-    kind: Kind,
-    count: usize,
-    rows: &mut [u64],
-    columns: &mut [u64],
-    links: &mut [u32],
-    heads: &mut [u32],
-) -> usize
-    requires { ⌜ (count < blockSize) × Table count (now rows) (now columns) (now links) (now heads) ⌝ }
-    ensures { λ r. ⌜ Keeps kind count (now (rows .entry)) (now (columns .entry)) r (now (rows .exit)) (now (columns .exit)) (now (links .exit)) (now (heads .exit)) ⌝ }
+fn keep(kind: Kind, count: usize, keys: &mut [u64], links: &mut [u16], heads: &mut [u16]) -> usize
+    requires { ⌜ (count + 1 < places) × Table count (now keys) (now links) (now heads) ⌝ }
+    ensures { λ r. ⌜ Keeps kind count (now (keys .entry)) r (now (keys .exit)) (now (links .exit)) (now (heads .exit)) ⌝ }
 {
     match kind {
         Kind::Entry(row, column) => {
-            store(row, column, count, rows, columns, links, heads);
+            let key = key_of(row, column);
+            store(key, count, keys, links, heads);
             count + 1
         }
         _ => count,
@@ -157,22 +173,21 @@ fn fill(
     from: usize,
     first: u64,
     limit: u64,
-    rows: &mut [u64],
-    columns: &mut [u64],
-    links: &mut [u32],
-    heads: &mut [u32],
+    keys: &mut [u64],
+    links: &mut [u16],
+    heads: &mut [u16],
 ) -> Filled
-    requires { ⌜ (from < length (now text)) × (first ≤ from) × (first < limit) × Table 0 (now rows) (now columns) (now links) (now heads) ⌝ }
-    ensures { λ r. ⌜ Fills (now (text .entry)) from first limit r (now (rows .exit)) (now (columns .exit)) (now (links .exit)) (now (heads .exit)) ⌝ }
+    requires { ⌜ (from < length (now text)) × (first ≤ from) × (first < limit) × Table 0 (now keys) (now links) (now heads) ⌝ }
+    ensures { λ r. ⌜ Fills (now (text .entry)) from first limit r (now (keys .exit)) (now (links .exit)) (now (heads .exit)) ⌝ }
 {
     let mut count = 0;
     let mut at = from;
     let mut line = first;
-    while count < BLOCK_SIZE && at < text.len() && line < limit {
+    while count < ENTRIES_MOST && at < text.len() && line < limit {
         let r = lines::read_line(text, at);
         let kind = r.kind;
         at = r.next;
-        if among(kind, count, &rows[..], &columns[..], &links[..], &heads[..]) {
+        if among(kind, text, from, count, &keys[..], &links[..], &heads[..]) {
             return Filled {
                 count,
                 at,
@@ -180,7 +195,7 @@ fn fill(
                 limit: line,
             };
         }
-        count = keep(kind, count, rows, columns, links, heads);
+        count = keep(kind, count, keys, links, heads);
         line += 1;
     }
     Filled {
@@ -191,20 +206,20 @@ fn fill(
     }
 }
 
-// From line `first` on, which begins at `from`, up to line `limit`: the first line whose entry is stored; or `limit`.
+// From line `first` on, which begins at `from`, up to line `limit`: the first line whose entry is one of the block's; or `limit`.
 fn meet(
     text: &[u8],
+    block: usize,
     from: usize,
     first: u64,
     limit: u64,
     count: usize,
-    rows: &[u64],
-    columns: &[u64],
-    links: &[u32],
-    heads: &[u32],
+    keys: &[u64],
+    links: &[u16],
+    heads: &[u16],
 ) -> u64
-    requires { ⌜ (from ≤ length (now text)) × (first ≤ from) × Table count (now rows) (now columns) (now links) (now heads) ⌝ }
-    ensures { λ r. ⌜ r ≡ meetFrom (stored (now (rows .entry)) (now (columns .entry)) count) first limit (kindsAt (now (text .entry)) from) ⌝ }
+    requires { ⌜ (block ≤ length (now text)) × (from ≤ length (now text)) × (first ≤ from) × Block (now text) block count (now keys) (now links) (now heads) ⌝ }
+    ensures { λ r. ⌜ r ≡ meetFrom (firstOf (now (text .entry)) block count) first limit (kindsAt (now (text .entry)) from) ⌝ }
 {
     let mut at = from;
     let mut line = first;
@@ -215,7 +230,7 @@ fn meet(
         let r = lines::read_line(text, at);
         let kind = r.kind;
         at = r.next;
-        if among(kind, count, rows, columns, links, heads) {
+        if among(kind, text, block, count, keys, links, heads) {
             return line;
         }
         line += 1;
@@ -231,24 +246,23 @@ fn pass(
     from: usize,
     first: u64,
     limit: u64,
-    rows: &mut [u64],
-    columns: &mut [u64],
-    links: &mut [u32],
-    heads: &mut [u32],
+    keys: &mut [u64],
+    links: &mut [u16],
+    heads: &mut [u16],
 ) -> Rest
-    requires { ⌜ (from < length (now text)) × (first ≤ from) × (first < limit) × Room (now rows) (now columns) (now links) (now heads) ⌝ }
+    requires { ⌜ (from < length (now text)) × (first ≤ from) × (first < limit) × Room (now keys) (now links) (now heads) ⌝ }
     ensures { λ r. ⌜ Passed (now (text .entry)) from first limit r ⌝ }
 {
-    clear(heads);
-    let f = fill(text, from, first, limit, rows, columns, links, heads);
+    clear(links, heads);
+    let f = fill(text, from, first, limit, keys, links, heads);
     let end = meet(
         text,
+        from,
         f.at,
         f.line,
         f.limit,
         f.count,
-        &rows[..],
-        &columns[..],
+        &keys[..],
         &links[..],
         &heads[..],
     );
@@ -265,12 +279,11 @@ fn by_blocks(
     from: usize,
     first: u64,
     limit: u64,
-    rows: &mut [u64],
-    columns: &mut [u64],
-    links: &mut [u32],
-    heads: &mut [u32],
+    keys: &mut [u64],
+    links: &mut [u16],
+    heads: &mut [u16],
 ) -> u64
-    requires { ⌜ (from ≤ length (now text)) × (first ≤ from) × Room (now rows) (now columns) (now links) (now heads) ⌝ }
+    requires { ⌜ (from ≤ length (now text)) × (first ≤ from) × Room (now keys) (now links) (now heads) ⌝ }
     ensures { λ r. ⌜ r ≡ repeatFrom [] first limit (kindsAt (now (text .entry)) from) ⌝ }
 {
     let mut at = from;
@@ -280,7 +293,7 @@ fn by_blocks(
         if end <= line {
             return end;
         }
-        let r = pass(text, at, line, end, rows, columns, links, heads);
+        let r = pass(text, at, line, end, keys, links, heads);
         at = r.at;
         line = r.line;
         end = r.limit;
@@ -293,18 +306,8 @@ pub fn first_repeat(text: &[u8], from: usize, first: u64, limit: u64) -> u64
     requires { ⌜ (from ≤ length (now text)) × (first ≤ from) ⌝ }
     ensures { λ r. ⌜ r ≡ repeatFrom [] first limit (kindsAt (now (text .entry)) from) ⌝ }
 {
-    let mut rows = [0u64; 16384];
-    let mut columns = [0u64; 16384];
-    let mut links = [0u32; 16384];
-    let mut heads = [0u32; 16384];
-    by_blocks(
-        text,
-        from,
-        first,
-        limit,
-        &mut rows,
-        &mut columns,
-        &mut links,
-        &mut heads,
-    )
+    let mut keys = [0u64; 32768];
+    let mut links = [0u16; 32768];
+    let mut heads = [0u16; 32768];
+    by_blocks(text, from, first, limit, &mut keys, &mut links, &mut heads)
 }

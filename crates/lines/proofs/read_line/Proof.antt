@@ -1,51 +1,34 @@
 -- `lines::read_line` meets its contract. Assumes nothing.
-use mathlib.Core.Path.{sym, ap, _∙_}
-use mathlib.Core.List.{_∷_}
-use native.Mathlib.Omega.{arith}
-use Rattle.lines.specs.Kinds.{kindsAt}
-use Rattle.lines.proofs.Ends.{line-within, line-off, next-within, next-on, line-kinds}
+use Rattle.lines.proofs.Plain.{plain-of}
 use borrow.Author.Needs.{needs}
 use Rattle.lines.proofs.read_line.Statement.{statement}
 use Rattle.lines.proofs.read_line.Tie as tie
 
-line-end-requires : tie.Need-line-end-requires
-line-end-requires c κs = search needs
+read-plain-requires : tie.Need-read-plain-requires
+read-plain-requires c κs = search needs
 
-sub-kind-of : tie.Need-sub-kind-of
-sub-kind-of c = search needs
+enum-known-row : tie.Need-enum-known-row
+enum-known-row c = search needs
 
-part-kind-of-start : tie.Need-part-kind-of-start
-part-kind-of-start c = search needs
+enum-told : tie.Need-enum-told
+enum-told c = search needs
 
-part-kind-of-end : tie.Need-part-kind-of-end
-part-kind-of-end c = omega (arith, line-within _ _ _ (c .before .before .pre) (c .line-end .ensures))
-
-kind-of-requires : tie.Need-kind-of-requires
-kind-of-requires c κs = search needs
-
-next-line-requires : tie.Need-next-line-requires
-next-line-requires c κs = (line-within _ _ _ (c .before .before .before .before .pre) (c .before .before .line-end .ensures), line-off _ _ _ (c .before .before .before .before .pre) (c .before .before .line-end .ensures))
+read-any-line-requires : tie.Need-read-any-line-requires
+read-any-line-requires c κs = search needs
 
 returns : tie.Need-returns
-returns c =
-    let a = c .before .before .before .before .before .args in
-    let h = c .before .before .before .before .before .pre in
-    let e = c .before .before .before .line-end .ensures in
-    let n = c .next-line .ensures in
-    record {
-      lines = line-kinds _ _ _ h e _ n ∙ ap (λ k. k ∷ kindsAt (a .text .now) (c .next-line .result)) (sym (c .before .kind-of .ensures));
-      on = next-on _ _ _ h e _ n;
-      within = next-within _ _ _ h e _ n;
-    }
+returns c = plain-of _ _ _ (c .before .before .before .read-plain .ensures) _ _ _ (c .before .row .given .1)
+
+returns-2 : tie.Need-returns-2
+returns-2 c = search needs
 
 pub read-line-spec : {M : Type 1} → statement M
 read-line-spec =
     tie.close
     (tie.spec
-    line-end-requires
-    sub-kind-of
-    part-kind-of-start
-    part-kind-of-end
-    kind-of-requires
-    next-line-requires
-    returns)
+    read-plain-requires
+    enum-known-row
+    enum-told
+    read-any-line-requires
+    returns
+    returns-2)

@@ -3,17 +3,21 @@ use mathlib.Core.Path.{_≡_, refl, ap, _∙_}
 use Prim.Native.Nat.{ℕ, _<_, _-_}
 use native.Mathlib.Omega.{arith}
 use lib.ListN.{length, getD, set, length-set}
+use borrow.Author.Needs.{needs}
 use lib.Seq.{getD-set-same, getD-set-other}
 use Rattle.definition.proofs.Fill.{same-or}
-use Rattle.repeated.specs.Tables.{blockSize}
+use Rattle.repeated.specs.Tables.{places}
 use Rattle.repeated.proofs.clear.Statement.{statement}
 use Rattle.repeated.proofs.clear.Tie as tie
 
 abbrev Inv-loop : tie.InvT-loop
-Inv-loop heads₀ h₀ heads h = (length heads ≡ length heads₀) × ((k : ℕ) → k < h → getD heads k 0 ≡ 0)
+Inv-loop links heads₀ h₀ heads h = (length heads ≡ length heads₀) × ((k : ℕ) → k < h → getD heads k 0 ≡ 0)
 
 abbrev μ-loop : tie.MeasureT-loop
-μ-loop heads₀ h₀ heads h = blockSize - h
+μ-loop links heads₀ h₀ heads h = places - h
+
+slice-write-links : tie.Need-slice-write-links Inv-loop μ-loop
+slice-write-links c = omega arith
 
 loop-holds : tie.Need-loop-holds Inv-loop μ-loop
 loop-holds c = (refl, λ k p. omega arith)
@@ -40,10 +44,13 @@ loop-again c =
     )
 
 same-length : tie.Need-same-length Inv-loop μ-loop
-same-length c = omega arith
+same-length c = search needs
+
+same-length-2 : tie.Need-same-length-2 Inv-loop μ-loop
+same-length-2 c = omega arith
 
 returns : tie.Need-returns Inv-loop μ-loop
-returns c = λ k p. c .before .loop .inv .1 k (omega arith)
+returns c = record { nobody = search needs; head = λ k p. c .before .loop .inv .1 k (omega arith) }
 
 pub clear-spec : {M : Type 1} → statement M
 clear-spec =
@@ -51,6 +58,7 @@ clear-spec =
     (tie.spec
     Inv-loop
     μ-loop
+    slice-write-links
     loop-holds
     mul-heads
     slice-write-heads
@@ -58,4 +66,5 @@ clear-spec =
     loop-less
     loop-again
     same-length
+    same-length-2
     returns)

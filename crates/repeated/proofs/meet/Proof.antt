@@ -5,23 +5,22 @@ use native.Mathlib.Numerals.{add-one}
 use native.Mathlib.Omega.{arith}
 use lib.ListN.{length}
 use Rattle.lines.specs.Kinds.{kindsAt}
-use Rattle.repeated.specs.Blocks.{meetFrom}
-use Rattle.repeated.specs.Tables.{stored}
+use Rattle.repeated.specs.Blocks.{firstOf, meetFrom}
 use Rattle.lines.proofs.Ends.{kinds-end}
 use Rattle.repeated.proofs.Repeats.{meet-over, meet-hit, meet-on, meet-end}
 use Rattle.repeated.proofs.meet.Statement.{statement}
 use Rattle.repeated.proofs.meet.Tie as tie
 
 abbrev Inv-loop : tie.InvT-loop
-Inv-loop text from first limit count rows columns links heads at₀ line₀ at line =
+Inv-loop text block from first limit count keys links heads at₀ line₀ at line =
     (line ≤ at) × (at ≤ length text)
-    × (meetFrom (stored rows columns count) first limit (kindsAt text from) ≡ meetFrom (stored rows columns count) line limit (kindsAt text at))
+    × (meetFrom (firstOf text block count) first limit (kindsAt text from) ≡ meetFrom (firstOf text block count) line limit (kindsAt text at))
 
 abbrev μ-loop : tie.MeasureT-loop
-μ-loop text from first limit count rows columns links heads at₀ line₀ at line = length text - at
+μ-loop text block from first limit count keys links heads at₀ line₀ at line = length text - at
 
 loop-holds : tie.Need-loop-holds Inv-loop μ-loop
-loop-holds c = let s = c .before .before .before .before .before in (s .pre .1, s .pre .0, refl)
+loop-holds c = let s = c .before .before .before .before in (s .pre .2, s .pre .1, refl)
 
 returns : tie.Need-returns Inv-loop μ-loop
 returns c = let l = c .before .before .loop in sym (l .inv .2 ∙ meet-over _ _ _ _ (c .if1 .taken))
@@ -30,7 +29,7 @@ read-line-requires : tie.Need-read-line-requires Inv-loop μ-loop
 read-line-requires c κs = omega arith
 
 among-requires : tie.Need-among-requires Inv-loop μ-loop
-among-requires c κs = c .before .before .before .before .before .before .before .before .before .pre .2
+among-requires c κs = let s = c .before .before .before .before .before .before .before .before in (s .pre .0, s .pre .3)
 
 returns-2 : tie.Need-returns-2 Inv-loop μ-loop
 returns-2 c =

@@ -11,14 +11,14 @@ clear-requires c κs = search needs
 
 fill-requires : tie.Need-fill-requires
 fill-requires c κs =
-    let k = c .before .before .before .before .before .before in
+    let k = c .before .before .before .before .before .before .before in
     let s = k .before .before .before .before .before .before .before in
     let r = s .pre .3 in (
       s .pre .0,
       s .pre .1,
       s .pre .2,
-      table-none _ _ _ _
-          (record { rows-room = r .rows-room; columns-room = r .columns-room; links-room = r .links-room; heads-room = omega (arith, k .clear .kept, r .heads-room) })
+      table-none _ _ _
+          (record { keys-room = r .keys-room; links-room = omega (arith, k .clear .kept, r .links-room); heads-room = omega (arith, k .clear .kept, r .heads-room) })
           (k .clear .ensures),
     )
 
@@ -34,11 +34,10 @@ same-length-2 c = search needs
 same-length-3 : tie.Need-same-length-3
 same-length-3 c = search needs
 
-same-length-4 : tie.Need-same-length-4
-same-length-4 c = search needs
-
 returns : tie.Need-returns
-returns c = filled-met _ _ _ _ _ _ _ _ _ _ (c .before .before .before .before .before .before .before .before .before .before .before .before .before .fill .ensures) (c .meet .ensures)
+returns c =
+    let f = c .before .before .before .before .before .before .before .before .before .before in
+    filled-met _ _ _ _ _ _ _ _ _ (f .fill .ensures) (c .meet .ensures)
 
 pub pass-spec : {M : Type 1} → statement M
 pass-spec =
@@ -50,5 +49,4 @@ pass-spec =
     same-length
     same-length-2
     same-length-3
-    same-length-4
     returns)
