@@ -584,9 +584,9 @@ static void graphs_by_rule(void) {
   }
 }
 
-/* ---- more entries than are looked for in one pass over the text, 16,384 */
+/* ---- more entries than are looked for in one pass over the text, 32,767 */
 
-enum { LARGE = 300, LARGE_TRIANGLE = LARGE * (LARGE + 1) / 2, LARGE_TEXT = LARGE_TRIANGLE * 8 + 100 };
+enum { LARGE = 400, LARGE_TRIANGLE = LARGE * (LARGE + 1) / 2, LARGE_TEXT = LARGE_TRIANGLE * 8 + 100 };
 
 /* Place `at` of an order of the whole triangle; 7,919 is a prime that does not divide the number of places. */
 static size_t place_of(size_t at, int is_mixed) { return is_mixed ? at * 7919 % LARGE_TRIANGLE : at; }
@@ -621,7 +621,7 @@ static void is_whole(const threshcinch_matrix_market market, const threshcinch_g
 /* Repeats that lie far apart: in a file that rises but for one line, and in one that does not rise at all. */
 static void far_repeats(void) {
   enum { LAST = LARGE_TRIANGLE - 1 };
-  static const size_t repeats[][2] = {{0, LAST}, {0, 1}, {16382, 16383}, {16383, 16384}, {0, 16384}, {16384, 32768}, {40000, LAST}};
+  static const size_t repeats[][2] = {{0, LAST}, {0, 1}, {32765, 32766}, {32766, 32767}, {0, 32767}, {32767, 65534}, {70000, LAST}};
   char *const text = (char *)malloc(LARGE_TEXT);
   threshcinch_graph_lists lists;
   if (!text) fail("no memory for the text");

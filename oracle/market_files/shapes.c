@@ -17,7 +17,7 @@ const char *any_edge(random_source *r) {
                                      "2",
                                      "3",
                                      "7",
-                                     "16384",
+                                     "32767",
                                      "1048575",
                                      "1048576",
                                      "1048577",
@@ -407,9 +407,20 @@ static const uint64_t far_rows[] = {UINT64_C(2097152),
                                     UINT64_C(18446744073709551614),
                                     UINT64_C(18446744073709551615)};
 
-/* One more entry, which has the row or the column of another, and of the other number its lowest 32 bits. */
+/* The number with this upper half that the reader folds to the same 32 bits as x: of the entries that it keeps it stores but these. */
+static uint64_t folded_alike(uint64_t x, uint32_t high) {
+  const uint32_t factor = UINT32_C(2654435769), folded = (uint32_t)x + (uint32_t)(x >> 32) * factor;
+  return ((uint64_t)high << 32) + (uint32_t)(folded - high * factor);
+}
+
+/* One more entry, which has the row or the column of another, and of the other number its lowest 32 bits, or what it is folded to. */
 static void add_alike(graph *g, random_source *r) {
   pair p = g->pairs[random_below(r, g->count)];
+  uint64_t other = folded_alike(p.row, (uint32_t)random_below(r, (g->n >> 32) + 1));
+  if (once_in(r, 2)) {
+    if (other && other <= g->n) add_pair(g, other, p.column);
+    return;
+  }
   uint64_t low = p.column & UINT32_MAX, high = p.row >> 32;
   if (once_in(r, 2) && low && high)
     add_pair(g, p.row, low + (random_below(r, high) << 32));
@@ -490,20 +501,32 @@ static void spread(graph *g) {
   g->n += UINT64_C(4) << 32;
 }
 
+/* Some entries in the places of others, each with the key of an entry that stays, and no repeat: the reader must look into the text. */
+static void share_keys(graph *g, random_source *r) {
+  g->n += UINT64_C(4) << 32;
+  for (uint64_t left = 1 + random_below(r, 40); left > 0; left--) {
+    size_t from = any_spot(g->count, r), to = any_spot(g->count, r);
+    pair p = g->pairs[from];
+    p.row = folded_alike(p.row, (uint32_t)(1 + random_below(r, 3)));
+    g->pairs[to] = p;
+  }
+  drop_repeats(g);
+}
+
 /* More entries than a block has, most in no rising order: without a repeat, or with one to three, near and far apart; some with a line that
  * is wrong by itself. */
 static void many(bytes *b, random_source *r) {
   static const size_t counts[] = {BLOCK - 1, BLOCK, BLOCK + 1, BLOCK + 2, 2 * BLOCK - 1, 2 * BLOCK, 2 * BLOCK + 1, 0};
   size_t due = PICK(r, counts);
   if (!due) due = BLOCK + random_below(r, 2 * BLOCK);
-  uint64_t n = 300 + random_below(r, 60);
+  uint64_t n = 450 + random_below(r, 60);
   fill_triangle(&made, n, 8 + random_below(r, 3), 10, r);
   shuffle(&made, r);
   if (made.count > due) made.count = due;
-  if (once_in(r, 6)) {
-    spread(&made);
-    shuffle(&made, r);
-  }
+  uint64_t alike = random_below(r, 6);
+  if (alike == 0) spread(&made);
+  if (alike == 1) share_keys(&made, r);
+  if (alike <= 1) shuffle(&made, r);
   if (once_in(r, 4)) put_in_order(&made, r);
   for (uint64_t left = repeats_of(r); left > 0; left--) repeat_any(r);
   if (once_in(r, 6)) made.pairs[any_spot(made.count, r)].row += 1000;

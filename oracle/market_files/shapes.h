@@ -9,7 +9,7 @@ extern const char sample[];
 
 /* how many entries the proved reader keeps at once where they stand in no rising order: at and behind this many more than one block is met
  */
-enum { BLOCK = 16384 };
+enum { BLOCK = 32767 };
 
 /* Makes a file, and answers its shape: a number below shape_count(). */
 int shape_make(bytes *b, random_source *r);

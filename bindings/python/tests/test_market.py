@@ -309,13 +309,13 @@ class Refused(Market):
     def test_repeats(self):
         """However far apart, and in whatever order: the later line is named."""
         chance = np.random.default_rng(10)
-        whole = [(row, column) for row in range(1, 201) for column in range(1, row + 1)]
+        whole = [(row, column) for row in range(1, 301) for column in range(1, row + 1)]
         for order in (whole, whole[::-1], [whole[place] for place in chance.permutation(len(whole))]):
-            for sooner, later in ((0, len(whole) - 1), (0, 1), (5, 16383), (5, 16384), (16384, 20000), (16383, 16384)):
+            for sooner, later in ((0, len(whole) - 1), (0, 1), (5, 32766), (5, 32767), (32767, 40000), (32766, 32767)):
                 wrong = list(order)
                 wrong[later] = wrong[sooner]
-                self.refused(19, later + 3, text_of(200, wrong))
-            self.assertEqual(read_matrix_market(text_of(200, order)).nnz, 40000)
+                self.refused(19, later + 3, text_of(300, wrong))
+            self.assertEqual(read_matrix_market(text_of(300, order)).nnz, 90000)
 
 
 if __name__ == "__main__":

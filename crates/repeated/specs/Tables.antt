@@ -14,9 +14,12 @@ use Rattle.repeated.specs.declared.Rest.{Rest}
 abbrev pub places : ℕ
 places = 32_768
 
--- the lowest 32 bits of row and column
+-- row and column as one number; two entries may have one key
+unfoldable pub folded : ℕ → ℕ
+folded x = (x % 0x1_0000_0000 + x / 0x1_0000_0000 * 2_654_435_769) % 0x1_0000_0000
+
 unfoldable pub keyOf : ℕ → ℕ → ℕ
-keyOf r c = r % 0x1_0000_0000 * 0x1_0000_0000 + c % 0x1_0000_0000
+keyOf r c = folded r * 0x1_0000_0000 + folded c
 
 unfoldable pub keysOf : List Entry → List ℕ
 keysOf [] = []

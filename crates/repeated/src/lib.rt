@@ -11,7 +11,7 @@ ghost use Rattle.lines.specs.Kinds.{kindsAt};
 ghost use Rattle.market.specs.Market.{has};
 ghost use Rattle.market.specs.Passes.{repeatFrom};
 ghost use Rattle.repeated.specs.Blocks.{hits, firstOf, meetFrom};
-ghost use Rattle.repeated.specs.Tables.{places, keyOf, hashOf, stored, Table, Room, Clears, Stores, Keeps, Block, Fills, Passed};
+ghost use Rattle.repeated.specs.Tables.{places, folded, keyOf, hashOf, stored, Table, Room, Clears, Stores, Keeps, Block, Fills, Passed};
 use lines::Kind;
 
 // The places of a block. Place 0 is nobody's: a block has one entry less.
@@ -37,11 +37,18 @@ struct Rest {
 // ---- the keys of a block's entries, in chains by their hashes: `heads` has the place of the last entry with a hash, `links` that of the
 // one before an entry that has its hash; 0 is none
 
-// Row and column in one number, so that a place has 8 bytes: all of both below 2^32, as they are in each file that is not refused by 3.
+// A number below 2^32 as it is; of a larger one, which no file has that is not refused by 3, the upper half is mixed into the lower.
+fn fold(x: u64) -> u64
+    ensures { λ r. ⌜ (r ≡ folded x) × (r < 0x1_0000_0000) ⌝ }
+{
+    (x % 4294967296 + x / 4294967296 * 2654435769) % 4294967296
+}
+
+// Row and column in one number, so that a place has 8 bytes.
 fn key_of(row: u64, column: u64) -> u64
     ensures { λ r. ⌜ r ≡ keyOf row column ⌝ }
 {
-    row % 4294967296 * 4294967296 + column % 4294967296
+    fold(row) * 4294967296 + fold(column)
 }
 
 // A number below the number of places for each key. The factors spread rows and columns that are near each other.
