@@ -73,9 +73,10 @@
  * - The small call refuses by 19 for the lines up to the size line, then by 2, and by 3 for the rows or for more than 67,108,864 entries on that line.
  *   Reading goes on where it stops: what it accepts may be refused by 19 or 3, and what it refuses by 2 or 3 may have a line at fault further down, 19.
  * - A text whose entries stand in strictly rising order, by column and row or by row and column, as every tool writes them, is tested in one pass. In
- *   any other order repeats are looked for in bounded memory, on the stack: block by block of 16,384 entries, each in one pass over what
- *   stands behind it. This takes more than linear time, the entries' number times the number of blocks (m x m / 32,768 lines read for m entries; for a
- *   text made so that all entries share one hash, up to m x m / 2 comparisons); its memory is the stack that is named above.
+ *   any other order repeats are looked for in bounded memory, on the stack: block by block of 32,767 entries, each in one pass over what
+ *   stands behind it. This takes more than linear time, the entries' number times the number of blocks (m x m / 65,534 lines read for m entries; for a
+ *   text made so that all entries share one hash, up to m x m / 2 comparisons; for one of 2^32 rows or more, which is refused in the end, made so that
+ *   all share one key, as many lines); its memory is the stack that is named above.
  *
  * WHAT MAY BE CALLED FROM SEVERAL THREADS AT ONCE
  * - threshcinch_chunk on the same state, graph and memory, as long as no two calls that run at once have the same chunk number. It reads
@@ -126,7 +127,7 @@ extern "C" {
  * that is 0 the second one too: one of them rises whenever a program that was linked before would go wrong, so that such a program does not
  * find the new one. */
 
-#define THRESHCINCH_VERSION "0.3.4"
+#define THRESHCINCH_VERSION "0.3.5"
 
 THRESHCINCH_API const char *const threshcinch_version;
 

@@ -40,7 +40,7 @@ def read_matrix_market(path_or_bytes: PathOrBytes) -> sparse.csr_matrix:
     the first line at fault, from 1; 2 for no rows; 3 for more than 1,048,576 rows, or more than 67,108,864 entries as placed.
 
     Entries in strictly rising order, by column and row or by row and column, as every tool writes them, are tested in one pass over the text. In any
-    other order repeats are looked for in one more pass for each 16,384 entries. A call takes about 394,000 bytes of its
+    other order repeats are looked for in one more pass for each 32,767 entries. A call takes about 394,000 bytes of its
     thread's stack: see threading.stack_size where threads have small ones.
     """
     text = _text_of(path_or_bytes)
