@@ -14,7 +14,7 @@ ghost use Rattle.repeated.specs.Blocks.{hits, firstOf, meetFrom};
 ghost use Rattle.repeated.specs.Tables.{places, folded, keyOf, hashOf, stored, Table, Room, Clears, Stores, Keeps, Block, Fills, Passed};
 use lines::Kind;
 
-// The places of a block. Place 0 is nobody's: a block has one entry less.
+// The places of a block, and the entries: place 0 is nobody's.
 const PLACES: usize = 32768;
 
 const ENTRIES_MOST: usize = 32767;
@@ -102,6 +102,16 @@ fn store(key: u64, count: usize, keys: &mut [u64], links: &mut [u16], heads: &mu
 
 // ---- lines
 
+// Whether two entries are one.
+fn is_pair(a: u64, b: u64, row: u64, column: u64) -> bool
+    ensures { λ r. ⌜ r ≡ (eqb a row && eqb b column) ⌝ }
+{
+    if a == row {
+        return b == column;
+    }
+    false
+}
+
 // Whether an entry is one of the first `count` from `from` on, which are read again.
 fn among_first(text: &[u8], from: usize, count: usize, row: u64, column: u64) -> bool
     requires { ⌜ from ≤ length (now text) ⌝ }
@@ -123,15 +133,6 @@ fn among_first(text: &[u8], from: usize, count: usize, row: u64, column: u64) ->
             return true;
         }
         left -= 1;
-    }
-    false
-}
-
-fn is_pair(a: u64, b: u64, row: u64, column: u64) -> bool
-    ensures { λ r. ⌜ r ≡ (eqb a row && eqb b column) ⌝ }
-{
-    if a == row {
-        return b == column;
     }
     false
 }
