@@ -1,6 +1,8 @@
 // Numbers to text and text to numbers, on bytes: decimals without leading zeros, and 64 bits as 16 lower-case hex digits.
 //
 // A reader answers the number and the place behind it; a writer answers the place behind what it wrote.
+#![tactic(auto)]
+
 ghost use Rattle.std.specs.Prelude.{◌≡◌, cond, ◌+◌, ◌≤◌, ◌<◌, length};
 ghost use Rattle.digits.specs.Digits.{decimal, hex_of, hex, is_digit, is_hex, hex_digit, hex_value};
 ghost use Rattle.digits.specs.ReadDecimal.{digits_at, up_to, read_decimal};

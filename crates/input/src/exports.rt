@@ -10,7 +10,7 @@ use crate::{SpectralParams, Verdict};
 
 // The lengths of the lent memory, 0 to 10: C hands over no array by value.
 #[repr(C)]
-#[derive(Drop)]
+#[derive(Clone, Copy)]
 pub struct Lent {
     pub lengths: [usize; 11],
 }

@@ -1,5 +1,7 @@
 // Parameters, chunk arithmetic and the test of a request: refusals 1 to 11 with their places.
 // Each function equals its definition on every input.
+#![tactic(auto)]
+
 ghost use Rattle.std.specs.Prelude.{◌≡◌, cond};
 ghost use Rattle.definition.specs.Numbers.{defaults};
 ghost use Rattle.definition.specs.Refusals.{passes, test_rounds, test_degree, test_seed_std, set_rounds, set_degree, set_seed_std};
@@ -18,7 +20,7 @@ pub use request::{
 
 // A refusal's number and its place; number 0 is no refusal.
 #[repr(C)]
-#[derive(Drop)]
+#[derive(Clone, Copy)]
 pub struct Verdict {
     pub number: u64,
     pub place: u64,
@@ -26,7 +28,7 @@ pub struct Verdict {
 
 // What a caller may set.
 #[repr(C)]
-#[derive(Drop)]
+#[derive(Clone, Copy)]
 pub struct SpectralParams {
     pub rounds: u64,
     pub degree: u64,
@@ -35,7 +37,7 @@ pub struct SpectralParams {
 
 // What a setter answers: the new parameters, or a refusal with the old ones.
 #[repr(C)]
-#[derive(Drop)]
+#[derive(Clone, Copy)]
 pub struct Set {
     pub verdict: Verdict,
     pub params: SpectralParams,

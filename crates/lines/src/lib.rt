@@ -1,4 +1,6 @@
 // Lines of a Matrix Market text: where each ends, and what it says.
+#![tactic(auto)]
+
 ghost use Rattle.std.specs.Prelude.{◌≡◌, true, false, List, [], ◌∷◌, ℕ, ◌+◌, ◌*◌, ◌≤◌, ◌<◌, leb, length, drop};
 ghost use Rattle.lines.specs.Lines.{begins, holds, is_blank, words_of};
 ghost use Rattle.lines.specs.Kinds.{value_of, largest, kind_of, numbers_in};

@@ -1,4 +1,6 @@
 // The numbers of the seed. Each public function equals its definition on every input.
+#![tactic(auto)]
+
 mod exports; // the functions that C and Rust call by name
 mod pattern; // the root on bit patterns
 mod whole; // the root of whole numbers
@@ -129,7 +131,7 @@ pub fn next_alpha(bound: f64, alpha: f64) -> f64
 }
 
 // What a pass multiplies its three numbers of a row by.
-#[derive(Drop)]
+#[derive(Clone, Copy)]
 pub struct Multipliers {
     pub of_mv: f64,
     pub of_v: f64,
@@ -172,7 +174,7 @@ pub fn plain_multipliers() -> Multipliers
 // ---- the collapse test
 
 // How an attempt at a column ends: kept with its norm, refreshed, or zeroed.
-#[derive(Drop)]
+#[derive(Clone, Copy)]
 pub enum Ending {
     Kept(f64),
     Refreshed,

@@ -5,7 +5,7 @@ ghost use Rattle.numbers.specs.Steps.{Normal, Split, Radicand, Patterned};
 use crate::whole::{digits, nearest};
 
 // A finite value above zero: sig * 2^exp squares of the smallest f64, which are 2^-2148.
-#[derive(Drop)]
+#[derive(Clone, Copy)]
 pub struct Scaled {
     pub sig: u64,
     pub exp: u64,

@@ -4,7 +4,7 @@ ghost use Rattle.definition.specs.Root.{Nearest};
 ghost use Rattle.numbers.specs.Steps.{Floored, Lengthens};
 
 // A root without its fraction and what its square leaves.
-#[derive(Drop)]
+#[derive(Clone, Copy)]
 pub struct Whole {
     pub root: u64,
     pub rest: u64,

@@ -7,7 +7,7 @@ use input::Verdict;
 
 // What was asked at the opening.
 #[repr(C)]
-#[derive(Drop)]
+#[derive(Clone, Copy)]
 pub struct Asked {
     pub dims: usize,
     pub rows: usize,
@@ -19,7 +19,7 @@ pub struct Asked {
 
 // Where the run is, with the bound and alpha of its filter and the norms of the column at hand.
 #[repr(C)]
-#[derive(Drop)]
+#[derive(Clone, Copy)]
 pub struct Progress {
     pub stage: usize,
     pub round: usize,
@@ -36,7 +36,7 @@ pub struct Progress {
 
 // Passes closed; columns refreshed and zeroed over all rounds; rows whose root was not above 1e-12, 0 until the degrees close.
 #[repr(C)]
-#[derive(Drop)]
+#[derive(Clone, Copy)]
 pub struct Counts {
     pub passes: usize,
     pub refreshed: usize,
@@ -45,7 +45,7 @@ pub struct Counts {
 }
 
 #[repr(C)]
-#[derive(Drop)]
+#[derive(Clone, Copy)]
 pub struct State {
     pub asked: Asked,
     pub progress: Progress,
@@ -58,7 +58,7 @@ pub struct State {
 
 // What each call answers.
 #[repr(C)]
-#[derive(Drop)]
+#[derive(Clone, Copy)]
 pub struct Answer {
     pub verdict: Verdict,
     pub state: State,

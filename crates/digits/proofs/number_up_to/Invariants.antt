@@ -1,0 +1,15 @@
+-- The invariant: the digits still to come follow on `value`.
+use mathlib.Core.Path.{◌≡◌, refl, sym, ◌∙◌}
+use Prim.Native.Nat.{◌+◌, ◌-◌, ◌≤◌}
+use native.Mathlib.Omega.{arith}
+use lib.ListN.{length}
+use Rattle.digits.specs.Digits.{value_from}
+use Rattle.digits.specs.ReadDecimal.{digits_at}
+use Rattle.digits.proofs.Scans.{step-digit, step_left, step_value, step-over, scan_done}
+use Rattle.digits.proofs.number_up_to.Given as goal
+
+abbrev pub invariant-loop-i : goal.invariant-loop-i
+invariant-loop-i l = (l.i + length (digits_at l.bytes l.i) ≡ l.end) × (l.value ≤ l.most) × (value_from l.value (digits_at l.bytes l.i) ≡ value_from 0 (digits_at l.bytes l.from))
+
+abbrev pub decreases-loop-i : goal.decreases-loop-i
+decreases-loop-i l = l.end - l.i

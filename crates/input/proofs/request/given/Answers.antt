@@ -1,0 +1,7 @@
+use Rattle.input.proofs.request.given.Goals as goal
+
+pub returns-then-fault : goal.returns-then-fault
+returns-then-fault c = simp c.if-fault.true
+
+pub returns-else-fault : goal.returns-else-fault
+returns-else-fault c = simp c.if-fault.false

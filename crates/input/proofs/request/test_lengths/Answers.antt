@@ -1,0 +1,7 @@
+use Rattle.definition.specs.Refusals.{test_lengths}
+use borrow.Author.Rules.{rules}
+use Rattle.input.proofs.request.test_lengths.Goals as goal
+
+pub returns : goal.returns
+unfolding test_lengths
+returns c = c.given.ensures

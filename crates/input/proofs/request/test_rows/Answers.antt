@@ -1,0 +1,7 @@
+use Rattle.definition.specs.Refusals.{test_rows}
+use borrow.Author.Rules.{rules}
+use Rattle.input.proofs.request.test_rows.Goals as goal
+
+pub returns : goal.returns
+unfolding test_rows
+returns c = c.given.ensures

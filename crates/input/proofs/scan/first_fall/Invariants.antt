@@ -1,0 +1,15 @@
+-- The invariant: no start before i falls.
+use mathlib.Core.Path.{◌≡◌, refl, sym, ◌∙◌}
+use Prim.Native.Nat.{◌≤◌, ◌-◌}
+use native.Mathlib.Omega.{arith}
+use lib.ListN.{length}
+use borrow.Author.Tests.{lt-ltb, le-ltb}
+use Rattle.definition.specs.Refusals.{first_from, falls}
+use Rattle.definition.proofs.First.{first-here, first-later, first-none}
+use Rattle.input.proofs.scan.first_fall.Given as goal
+
+abbrev pub invariant-loop-i : goal.invariant-loop-i
+invariant-loop-i l = (1 ≤ l.i) × (first_from (falls l.starts) 1 (length l.starts - 1) ≡ first_from (falls l.starts) l.i (length l.starts - l.i))
+
+abbrev pub decreases-loop-i : goal.decreases-loop-i
+decreases-loop-i l = length l.starts - l.i

@@ -1,0 +1,24 @@
+use mathlib.Core.Path.{◌≡◌, sym, ◌∙◌}
+use Prim.Native.Nat.{◌-◌}
+use native.Mathlib.Omega.{arith}
+use lib.ListN.{length}
+use borrow.Author.Tests.{le-leb, lt-leb}
+use Rattle.definition.specs.Refusals.{first_from}
+use Rattle.input.specs.Said.{high}
+use Rattle.definition.proofs.First.{first-start, first-here, first-later, first-none}
+use Rattle.input.proofs.scan.first_high_column.Goals as goal
+
+pub loop-e-init : goal.loop-e-init
+loop-e-init c = first-start _ _
+
+pub overflow_cast-column : goal.overflow_cast-column
+overflow_cast-column c = omega (arith, c.type_inv.columns c.loop-e.e)
+
+pub returns-then-n-column : goal.returns-then-n-column
+returns-then-n-column c = sym (c.loop-e.invariant ∙ first-here _ _ _ (omega arith) (le-leb _ _ c.if-n-column.true))
+
+pub loop-e-preserved : goal.loop-e-preserved
+loop-e-preserved c = c.loop-e.invariant ∙ first-later _ _ _ (omega arith) (lt-leb _ _ c.if-n-column.false)
+
+pub returns : goal.returns
+returns c = sym (c.loop-e.invariant ∙ first-none _ _ _ (omega arith))

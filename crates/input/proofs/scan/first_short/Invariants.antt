@@ -1,0 +1,16 @@
+-- The invariant: no lent memory before j is short.
+use mathlib.Core.Path.{◌≡◌, refl, sym, ◌∙◌}
+use Prim.Native.Nat.{◌-◌}
+use native.Mathlib.Omega.{arith}
+use borrow.Author.Tests.{lt-ltb, le-ltb}
+use Rattle.definition.specs.Memory.{wholes_of}
+use Rattle.definition.specs.Refusals.{first_from}
+use Rattle.input.specs.Said.{short}
+use Rattle.definition.proofs.First.{first-here, first-later, first-none}
+use Rattle.input.proofs.scan.first_short.Given as goal
+
+abbrev pub invariant-loop-j : goal.invariant-loop-j
+invariant-loop-j l = first_from (short (wholes_of l.lent) (wholes_of l.sizes)) 0 11 ≡ first_from (short (wholes_of l.lent) (wholes_of l.sizes)) l.j (11 - l.j)
+
+abbrev pub decreases-loop-j : goal.decreases-loop-j
+decreases-loop-j l = 11 - l.j

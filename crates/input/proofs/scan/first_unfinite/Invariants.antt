@@ -1,0 +1,17 @@
+-- The invariant: no value before e is NaN or infinite.
+use mathlib.Core.Path.{◌≡◌, sym, ap, ◌∙◌}
+use mathlib.Core.Bool.{not}
+use Prim.Native.Nat.{◌-◌}
+use native.Mathlib.Omega.{arith}
+use borrow.Author.Rules.{rules}
+use lib.ListN.{length}
+use Rattle.definition.specs.Refusals.{first_from}
+use Rattle.input.specs.Said.{unfinite}
+use Rattle.definition.proofs.First.{first-start, first-here, first-later, first-none}
+use Rattle.input.proofs.scan.first_unfinite.Given as goal
+
+abbrev pub invariant-loop-e : goal.invariant-loop-e
+invariant-loop-e l = first_from (unfinite l.values) 0 (length l.values) ≡ first_from (unfinite l.values) l.e (length l.values - l.e)
+
+abbrev pub decreases-loop-e : goal.decreases-loop-e
+decreases-loop-e l = length l.values - l.e

@@ -1,0 +1,24 @@
+-- : the count of leading zeros brings the highest digit to place 52.
+use Rattle.std.proofs.Common.{◌≡◌, ◌-◌, ◌*◌, ◌%◌, ◌^◌, ◌<◌, mod-eq_of_lt, arith}
+use lib.Count.{count_leading_zeros}
+use Rattle.numbers.proofs.Values.{Zeros, zeros_of, shifted}
+use Rattle.numbers.proofs.pattern.shifted_up.Goals as goal
+use Rattle.numbers.proofs.pattern.shifted_up.Goals.{Start}
+
+zeros : (c : Start) → Zeros c.args.t (count_leading_zeros 64 c.args.t)
+zeros c = zeros_of c.args.t c.requires.0 c.requires.1
+
+pub overflow_sub-shift : goal.overflow_sub-shift
+overflow_sub-shift c = omega (arith, zeros (goal.at.overflow_sub-shift c).Start)
+
+pub overflow_cast-wide : goal.overflow_cast-wide
+overflow_cast-wide c = omega (arith, zeros (goal.at.overflow_cast-wide c).Start)
+
+pub overflow_cast-result : goal.overflow_cast-result
+overflow_cast-result c = omega (arith, zeros (goal.at.overflow_cast-result c).Start)
+
+pub overflow_shl-result : goal.overflow_shl-result
+overflow_shl-result c = omega (arith, zeros (goal.at.overflow_shl-result c).Start)
+
+pub overflow_sub-result : goal.overflow_sub-result
+overflow_sub-result c = omega (arith, zeros (goal.at.overflow_sub-result c).Start)
