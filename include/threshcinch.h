@@ -127,7 +127,7 @@ extern "C" {
  * that is 0 the second one too: one of them rises whenever a program that was linked before would go wrong, so that such a program does not
  * find the new one. */
 
-#define THRESHCINCH_VERSION "0.4.0"
+#define THRESHCINCH_VERSION "0.3.5"
 
 THRESHCINCH_API const char *const threshcinch_version;
 
@@ -304,9 +304,8 @@ THRESHCINCH_ASSERT(offsetof(threshcinch_matrix_market, rows) == 16 && offsetof(t
 THRESHCINCH_ASSERT(sizeof(threshcinch_matrix_market_room) == 32);
 THRESHCINCH_ASSERT(offsetof(threshcinch_matrix_market_room, starts) == 16 && offsetof(threshcinch_matrix_market_room, entries) == 24);
 
-/* ---- parameters: 5 rounds of degree 30, seed_std 1e-4, until set (degree 20 before version 0.4, and in bhtsne: a program whose seeds must
- * repeat names all three). A setter tests the number that it sets and no other; opening and the one call test all three, so a host may also
- * write the fields itself. */
+/* ---- parameters: 5 rounds of degree 20, seed_std 1e-4, until set. A setter tests the number that it sets and no other; opening and the one
+ * call test all three, so a host may also write the fields itself. */
 
 THRESHCINCH_API threshcinch_params threshcinch_params_new(void);
 THRESHCINCH_API threshcinch_set threshcinch_params_rounds(threshcinch_params params, uint64_t rounds);

@@ -2,10 +2,10 @@
 # library/version.sh: the library's version, whose one home is include/threshcinch.h; for bash, read in by other scripts (source) after
 # machine.sh.
 #
-#   version_of_header   prints THRESHCINCH_VERSION, as 0.4.0
+#   version_of_header   prints THRESHCINCH_VERSION, as 0.3.0
 #   version_soname_of VERSION   prints the name by which programs ask for the shared library of that version. It has the version's first
 #                       number, and while that is 0 the second one too: one of them rises whenever a program that was linked before would go
-#                       wrong (another record, another form of a call, another default), so that such a program does not find the new one
+#                       wrong (another record, another form of a call), so that such a program does not find the new one
 #   version_soname      prints it for the header's version
 
 version_of_header() {

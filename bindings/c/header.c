@@ -2,8 +2,8 @@
  * Status: 0, or 1 with the first thing that is wrong. */
 #include "check.h"
 
-/* the default parameters' rounds and degree */
-enum { DIMS = 2, ROWS = 30, ROUNDS = 5, DEGREE = 30, WIDE = DIMS + 8 };
+/* the default parameters' rounds */
+enum { DIMS = 2, ROWS = 30, ROUNDS = 5, WIDE = DIMS + 8 };
 
 static threshcinch_verdict begin(const threshcinch_graph *graph, const threshcinch_memory *memory) {
   const threshcinch_params params = threshcinch_params_new();
@@ -187,12 +187,6 @@ static void null_entries(void) {
   threshcinch_memory_free(&memory);
 }
 
-static void new_parameters_are_what_the_header_says(void) {
-  const threshcinch_params params = threshcinch_params_new();
-  if (params.rounds != ROUNDS || params.degree != DEGREE || params.seed_std != 1e-4)
-    fail("new parameters have %u rounds of degree %u, seed_std %.17g", (unsigned)params.rounds, (unsigned)params.degree, params.seed_std);
-}
-
 static void a_setter_tests_its_own_number_alone(void) {
   threshcinch_params params = threshcinch_params_new();
   params.rounds = 0;
@@ -216,7 +210,7 @@ static void progress_counts_whole_stages(void) {
   const threshcinch_graph graph = ring(4200);
   threshcinch_memory memory = memory_for(DIMS, ROUNDS, &graph);
   const threshcinch_answer opened = threshcinch_run_open(DIMS, threshcinch_params_new(), &graph, &memory);
-  const size_t calls = (9 + ROUNDS * (DEGREE + 2 + 7 * WIDE)) * 3;
+  const size_t calls = (9 + 5 * (20 + 2 + 7 * (DIMS + 8))) * 3;
   if (threshcinch_run_accepted(&opened.state) != 0 || threshcinch_run_owed(&opened.state) != calls) fail("an open run owes every call");
   const threshcinch_answer done = threshcinch_run_chunk(&opened.state, 1, &graph, &memory);
   if (threshcinch_run_accepted(&done.state) != 0 || threshcinch_run_owed(&done.state) != calls) fail("a chunk counts before its stage is closed");
@@ -246,11 +240,10 @@ int main(void) {
   sizes_know_the_rounds();
   ritz_record();
   null_entries();
-  new_parameters_are_what_the_header_says();
   a_setter_tests_its_own_number_alone();
   progress_counts_whole_stages();
   each_refusal_has_words_of_its_own();
   threshcinch_memory_free(&memory);
-  printf("header: NULL lists, sizes, the Ritz record, new parameters, setters, progress and words are as it says\n");
+  printf("header: NULL lists, sizes, the Ritz record, setters, progress and words are as it says\n");
   return 0;
 }

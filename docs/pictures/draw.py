@@ -8,7 +8,7 @@ matplotlib.use("Agg")
 import numpy as np
 from exact import agreements, exact, graph_of, turned_like
 from matplotlib import pyplot
-from runs import PUBLISHED, seed_file
+from runs import seed_file
 from scipy.sparse import csgraph
 from sklearn import datasets, manifold
 
@@ -48,17 +48,17 @@ def name_digits(figure, axes, room):
 
 def draw_digits(folder):
     """The seed of the digits beside scikit-learn's embedding of the same graph."""
-    seed = np.load(seed_file(folder, "digits", **PUBLISHED))
+    seed = np.load(seed_file(folder, "digits"))
     theirs = manifold.spectral_embedding(graph_of(folder, "digits"), n_components=2, random_state=0)
     figure, (left, right) = panels(2, 9, 4.2)
-    scatter_digits(left, seed, "Threshcinch's seed, degree {degree}".format(**PUBLISHED))
+    scatter_digits(left, seed, "Threshcinch's seed (defaults)")
     scatter_digits(right, turned_like(theirs, seed), "scikit-learn's spectral_embedding")
     name_digits(figure, left, 0.93)
     save(figure, "digits.png")
 
 
 def draw_rounds(folder):
-    """The digits again, with fewer rounds and lower degrees."""
+    """The digits again, with fewer rounds and a lower degree than the defaults."""
     figure, all_axes = panels(4, 12, 3.4)
     for axes, (rounds, degree) in zip(all_axes, ((1, 5), (1, 20), (2, 20), (5, 20))):
         first, second = agreements(folder, "digits", rounds=rounds, degree=degree)
@@ -90,7 +90,7 @@ def draw_chain(folder):
 def draw_components(folder):
     """Three heaps with no link between them: the seed of the whole, and the seed of the first heap alone."""
     figure, (left, right) = panels(2, 9, 3.8)
-    seed = np.load(seed_file(folder, "components", **PUBLISHED))
+    seed = np.load(seed_file(folder, "components"))
     _, part_of = csgraph.connected_components(graph_of(folder, "components"))
     for part, rows in ((0, 300), (1, 200), (2, 100)):
         chosen = part_of == part
@@ -99,7 +99,7 @@ def draw_components(folder):
     left.scatter(seed[lonely, 0], seed[lonely, 1], s=40, color="black", marker="x", label="5 rows with no entries")
     left.set_title("the whole graph: one place for each heap")
     left.legend(loc="best")
-    alone = np.load(seed_file(folder, "largest", **PUBLISHED))
+    alone = np.load(seed_file(folder, "largest"))
     right.scatter(alone[:, 0], alone[:, 1], s=8, color=COLOURS(0))
     right.set_title("the heap of 300 alone")
     for axes in (left, right):

@@ -9,7 +9,7 @@ import sys
 
 import numpy as np
 from exact import agreements, graph_of, solved
-from runs import COLLAPSES, DIGESTS, GRIDS, PUBLISHED, SEED_STDS, name_of, seed_file
+from runs import COLLAPSES, GRIDS, SEED_STDS, name_of, seed_file
 from scipy.sparse import csgraph
 
 
@@ -44,10 +44,9 @@ def noted(folder, name, **asked):
 
 def digests(folder):
     rows = []
-    for name in DIGESTS:
-        rows.append([name, "graph", f"`{noted(folder, name)['graph']}`"])
-        for words, asked in (("seed, degree {degree}".format(**PUBLISHED), PUBLISHED), ("seed, the defaults", {})):
-            rows.append(["", words, f"`{noted(folder, name, **asked)['seed']}`"])
+    for name in ("digits", "clusters", "chain", "components"):
+        run = noted(folder, name)
+        rows += [[name, "graph", f"`{run['graph']}`"], ["", "seed", f"`{run['seed']}`"]]
     return table(["graph", "digest of", "SHA-256"], rows)
 
 
@@ -76,10 +75,10 @@ def collapses(folder):
 
 
 def seed_stds(folder):
-    usual = np.load(seed_file(folder, "digits", seed_std=1e-4, **PUBLISHED))
+    usual = np.load(seed_file(folder, "digits", seed_std=1e-4))
     rows = []
     for std in SEED_STDS:
-        seed = np.load(seed_file(folder, "digits", seed_std=std, **PUBLISHED))
+        seed = np.load(seed_file(folder, "digits", seed_std=std))
         with np.errstate(all="ignore"):
             apart = np.abs(seed / std - usual / 1e-4).max()
         spread = np.sqrt(((seed / std) ** 2).mean(axis=0)) * std
@@ -89,7 +88,7 @@ def seed_stds(folder):
 
 def components(folder):
     """Where each component of the graph lies, and how far its rows spread there."""
-    seed = np.load(seed_file(folder, "components", **PUBLISHED))
+    seed = np.load(seed_file(folder, "components"))
     _, part_of = csgraph.connected_components(graph_of(folder, "components"))
     rows = []
     for words, chosen in [(f"heap of {(part_of == p).sum()}", part_of == p) for p in range(3)] + [("5 rows with no entries", part_of > 2)]:

@@ -5,7 +5,7 @@
 
 #include "threshcinch.h"
 
-enum { DIMS = 2, ROWS = 6, ENTRIES = 14, DEGREE = 20 };
+enum { DIMS = 2, ROWS = 6, ENTRIES = 14 };
 
 static int refused(threshcinch_verdict verdict) {
   if (verdict.number) fprintf(stderr, "seed: refusal %" PRIu64 " at %" PRIu64 ": %s\n", verdict.number, verdict.place, threshcinch_words(verdict.number));
@@ -41,9 +41,7 @@ int main(void) {
   const double values[ENTRIES] = {1.0, 0.5, 1.0, 0.75, 0.5, 0.75, 0.125, 0.125, 1.0, 0.25, 1.0, 0.5, 0.25, 0.5};
   const threshcinch_graph graph = threshcinch_graph_of(ROWS, starts, ENTRIES, columns, values);
 
-  /* seed.txt has what this prints, so the degree is named: that of new parameters may change, and did */
-  threshcinch_params params = threshcinch_params_new();
-  params.degree = DEGREE;
+  const threshcinch_params params = threshcinch_params_new();
   const threshcinch_sizes sizes = threshcinch_lent_sizes(DIMS, params.rounds, ROWS, ENTRIES);
   if (refused(sizes.verdict)) return 1;
   threshcinch_memory memory;

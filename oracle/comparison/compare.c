@@ -102,7 +102,6 @@ static void count_isolated(const graph *g) {
 static void count_graph(const graph *g) {
   size_t chunks = reading_chunks(g->rows);
   told_report.graphs++;
-  /* the Rust's, not the library's */
   told_report.defaults += g->rounds == 5 && g->degree == 20 && g->seed_std == 1e-4;
   told_report.by_dims[g->dims]++;
   told_report.by_rows[band_of(g->rows)]++;

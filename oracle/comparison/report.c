@@ -107,7 +107,7 @@ static void print_sizes(void) {
   static const char *const chunks[] = {"1", "2", "3", "4", "5", "more"};
   static const char *const rows[] = {"to 64", "to 1,000", "to 4,096", "to 20,000", "more"};
   const report *r = &told_report;
-  printf("Graphs %llu, of which with the Rust's default parameters %llu; most rows %llu\n", of(r->graphs), of(r->defaults), of(r->most_rows));
+  printf("Graphs %llu, of which with the default parameters %llu; most rows %llu\n", of(r->graphs), of(r->defaults), of(r->most_rows));
   print_row("D", r->by_dims + 1, dims, 7);
   print_row("rows", r->by_rows, rows, 5);
   print_row("chunks", r->by_chunks + 1, chunks, 6);

@@ -74,8 +74,8 @@ class Seeds(Files):
         np.testing.assert_array_equal(bits(np.load(self.output)), bits(seed))
         digests = f"graph {graph_digest(self.graph)} {self.path('graph.npz')}\nseed {seed_digest(seed)} {self.output}\n"
         words = (
-            f"60 rows, {self.graph.nnz} entries; 2 numbers a row, 5 rounds of degree 30, seed_std 0.0001\n"
-            f"155 operator passes, {counts.refreshed} columns refreshed, 0 columns zeroed, 0 isolated rows\n"
+            f"60 rows, {self.graph.nnz} entries; 2 numbers a row, 5 rounds of degree 20, seed_std 0.0001\n"
+            f"105 operator passes, {counts.refreshed} columns refreshed, 0 columns zeroed, 0 isolated rows\n"
         )
         self.assertEqual((status, out, err), (0, words + digests, ""))
         self.assertEqual(self.command("digest", self.path("graph.npz"), self.output), (0, digests, ""))
@@ -205,7 +205,7 @@ class RunFiles(Files):
         """What is left out is the library's for both commands: a run of the file has the seed's bits."""
         _, out, _ = self.run_file(self.graph, "--dims", 2)
         file = read_run(out.encode())
-        self.assertEqual((file.rounds, file.degree, file.seed_std), (5, 30, 1e-4))
+        self.assertEqual((file.rounds, file.degree, file.seed_std), (5, 20, 1e-4))
         self.seed(self.graph)
         seed = spectral_embedding(file.graph, file.dims, file.rounds, file.degree, file.seed_std)[0]
         np.testing.assert_array_equal(bits(np.load(self.output)), bits(seed))
@@ -472,7 +472,7 @@ class RefusedWords(Files):
     def test_help_has_a_run_files_sizes(self):
         status, out, _ = self.command("run-file", "--help")
         self.assertEqual(status, 0)
-        for words in ("at most 64 rows, 1,024 entries and 400 rounds", "--dims D", "1 to 400 (5)", "1 to 1,000 (30;", "(1e-4)", "Status: 0"):
+        for words in ("at most 64 rows, 1,024 entries and 400 rounds", "--dims D", "1 to 400 (5)", "1 to 1,000 (20)", "(1e-4)", "Status: 0"):
             self.assertIn(words, out)
         self.assertRegex(self.command("--help")[1], r"run-file +a stored graph as a run file\n")
 

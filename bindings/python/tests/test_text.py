@@ -77,7 +77,7 @@ class BothWays(Texts):
         self.assertEqual(write_answer(spectral_embedding(graph, 1, 1, 1)), PRINTED)
 
     def test_defaults_are_spectral_embeddings(self):
-        self.assertEqual(write_run(csr([0, 1], [0], [1.0])), text_of(2, 5, 30, 1e-4, [0, 1], [0], [1.0]))
+        self.assertEqual(write_run(csr([0, 1], [0], [1.0])), text_of(2, 5, 20, 1e-4, [0, 1], [0], [1.0]))
 
     def test_every_bit(self):
         graph = awkward_graph()
@@ -335,7 +335,7 @@ class ReadingRefused(Texts):
     def test_a_file_made_by_hand(self):
         """Arrays of other kinds become the library's here too: no length is taken for another kind's."""
         file = RunFile(2, 5, 20, 1e-4, np.array([0, 1, 2]), np.array([1, 0], np.int16), np.array([1, 2], np.uint8))
-        self.assertEqual(write_run(file.graph, *file[:4]), text_of(2, 5, 20, 1e-4, [0, 1, 2], [1, 0], [1.0, 2.0]))
+        self.assertEqual(write_run(file.graph), text_of(2, 5, 20, 1e-4, [0, 1, 2], [1, 0], [1.0, 2.0]))
 
 
 class Answers(Texts):

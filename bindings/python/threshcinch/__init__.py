@@ -26,6 +26,6 @@ from ._refusal import LoadError, Refusal
 from ._run import Counts, Embedding, Progress, Run, spectral_embedding
 from ._text import RunFile, read_run, write_answer, write_run
 
-__version__ = "0.4.0"
+__version__ = "0.3.5"
 __all__ = ["Counts", "Embedding", "LoadError", "Progress", "Refusal", "Run", "RunFile", "graph_digest", "read_matrix_market", "read_run"]
 __all__ += ["seed_digest", "spectral_embedding", "write_answer", "write_run"]

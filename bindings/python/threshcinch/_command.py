@@ -117,7 +117,7 @@ def _add_seed(commands) -> None:
 
 def _add_params(parser, most_rounds: str) -> None:
     parser.add_argument("--rounds", type=int, metavar="N", help=f"rounds of refinement, 1 to {most_rounds} (5)")
-    parser.add_argument("--degree", type=int, metavar="N", help="the filter's degree, 1 to 1,000 (30; 20 before version 0.4)")
+    parser.add_argument("--degree", type=int, metavar="N", help="the filter's degree, 1 to 1,000 (20)")
     parser.add_argument("--seed-std", type=float, metavar="X", help="standard deviation of each of the seed's columns (1e-4)")
 
 

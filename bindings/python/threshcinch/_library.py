@@ -110,8 +110,8 @@ _FUNCTIONS = {
     "threshcinch_matrix_market_sizes": (MatrixMarketRoom, _LIST),
 }
 _NAME = "libthreshcinch.so"
-# How the version of a library begins that has these records and functions in this form, and these defaults. Its soname ends so too.
-SERIES = "0.4."
+# How the version of a library begins that has these records and functions in this form. Its soname ends so too.
+SERIES = "0.3."
 
 
 def _folder() -> str:

@@ -376,7 +376,7 @@ def spectral_embedding(
     dims      numbers a row of the seed has, 1 to 7
     rounds, degree, seed_std
               rounds of refinement and the filter's degree (1 to 1,000 each), and the standard deviation of each of the seed's columns;
-              None is the library's default: 5, 30, 1e-4. The degree was 20 before version 0.4, as in bhtsne
+              None is the library's default: 5, 20, 1e-4
     progress  called as progress(accepted, owed) from the calling thread, before each call that it makes on a held run and once at the
               end: how many calls the library has accepted since the opening, and how many it still owes if no further column is
               refreshed. What it raises ends the run and comes out of here.

@@ -1,10 +1,6 @@
 //! bhtsne's own call, for who has its lists at hand.
 
-use crate::ffi::RawParams;
 use crate::{Graph, Params, Refusal};
-
-/// bhtsne's own defaults: 5 rounds of degree 20, seed_std 1e-4. [`Params::new`] has another degree.
-pub const DEFAULT_PARAMS: Params = Params { raw: RawParams { rounds: 5, degree: 20, seed_std: 1e-4 } };
 
 impl<'a> Graph<'a> {
     /// The graph with the lists as bhtsne has them: row starts of the machine's width, columns, values.
@@ -21,14 +17,14 @@ impl<'a> Graph<'a> {
 
 /// Takes what bhtsne's `spectral_embedding::<f64, D>` takes and answers what it answers, row after row, D numbers each.
 ///
-/// What bhtsne takes where nothing is said is [`DEFAULT_PARAMS`]. Two things differ. Where bhtsne panics (and where document 01 sets a limit that it has not) this is a [`Refusal`]. And where two of the
+/// Two things differ. Where bhtsne panics (and where document 01 sets a limit that it has not) this is a [`Refusal`]. And where two of the
 /// last round's leading Ritz values are equal, or one is NaN, or a row names a column twice, bhtsne's order is its sort's; here it is
 /// document 01's. Elsewhere the bits are bhtsne's. The starts are not copied: see [`Graph::from_bhtsne`].
 ///
 /// ```
-/// use threshcinch::bhtsne;
+/// use threshcinch::{bhtsne, Params};
 /// let (p_rows, p_columns, p_values) = (vec![0usize, 1, 2], vec![1u32, 0], vec![1.0f64, 1.0]);
-/// let seed: Vec<f64> = bhtsne::spectral_embedding::<2>(&p_rows, &p_columns, &p_values, bhtsne::DEFAULT_PARAMS)?;
+/// let seed: Vec<f64> = bhtsne::spectral_embedding::<2>(&p_rows, &p_columns, &p_values, Params::new())?;
 /// assert_eq!(seed.len(), 2 * 2);
 /// # Ok::<(), threshcinch::Refusal>(())
 /// ```

@@ -23,9 +23,7 @@ impl Default for Params {
 }
 
 impl Params {
-    /// 5 rounds of degree 30, seed_std 1e-4. bhtsne has degree 20, as this crate had before version 0.4: [`bhtsne::DEFAULT_PARAMS`] keeps it.
-    ///
-    /// [`bhtsne::DEFAULT_PARAMS`]: crate::bhtsne::DEFAULT_PARAMS
+    /// 5 rounds of degree 20, seed_std 1e-4.
     pub fn new() -> Params {
         // SAFETY: takes nothing, answers a record by value.
         Params { raw: in_default(|| unsafe { ffi::threshcinch_params_new() }) }

@@ -56,7 +56,7 @@ fn lent_sizes_are_document_01s() {
 fn defaults_and_setters() {
     let params = Params::new();
     assert_eq!(params, Params::default());
-    assert_eq!((params.get_rounds(), params.get_degree(), params.get_seed_std()), (5, 30, 1e-4));
+    assert_eq!((params.get_rounds(), params.get_degree(), params.get_seed_std()), (5, 20, 1e-4));
     let set = params.rounds(1000).unwrap().degree(1).unwrap().seed_std(f64::MIN_POSITIVE).unwrap();
     assert_eq!((set.get_rounds(), set.get_degree(), set.get_seed_std()), (1000, 1, f64::MIN_POSITIVE));
     for rounds in [0, 1001, u64::MAX] {
@@ -92,20 +92,11 @@ fn bhtsnes_call_gives_the_same() {
     let ring = Ring::new(300, 11, 5);
     let graph = ring.graph();
     let p_rows: Vec<usize> = graph.starts.iter().map(|&start| start as usize).collect();
-    let theirs = |params: Params| bhtsne::spectral_embedding::<2>(&p_rows, graph.columns, graph.values, params).unwrap();
-    for params in [bhtsne::DEFAULT_PARAMS, Params::new()] {
-        assert_eq!(bits(&theirs(params)), bits(&spectral_embedding(&graph, 2, params).unwrap().values));
-    }
-    assert_ne!(bits(&theirs(bhtsne::DEFAULT_PARAMS)), bits(&theirs(Params::new())));
+    let theirs = bhtsne::spectral_embedding::<2>(&p_rows, graph.columns, graph.values, Params::new()).unwrap();
+    let ours = spectral_embedding(&graph, 2, Params::new()).unwrap();
+    assert_eq!(bits(&theirs), bits(&ours.values));
     assert_eq!(bhtsne::spectral_embedding::<8>(&p_rows, graph.columns, graph.values, Params::new()), Err(refusal(1, 0)));
     assert_eq!(bhtsne::spectral_embedding::<2>(&[], &[], &[], Params::new()), Err(refusal(2, 0)));
-}
-
-/// They are written down, and yet such as the library's setters make.
-#[test]
-fn bhtsnes_defaults_are_named() {
-    let set = Params::new().rounds(5).and_then(|params| params.degree(20)?.seed_std(1e-4));
-    assert_eq!(set, Ok(bhtsne::DEFAULT_PARAMS));
 }
 
 #[test]

@@ -65,7 +65,7 @@ fn extreme_numbers_and_empty_lists() {
     let text = "d=7\nrounds=400\ndegree=1000\nseed_std=0000000000000001\nstarts=0,3,3,4\ncolumns=2,0,2,1\n\
         values=8000000000000000,0000000000000001,7fefffffffffffff,ffefffffffffffff\n";
     assert_writes(text.as_bytes(), |out| write_run_in(&graph, 7, params(400, 1000, f64::from_bits(1)), out));
-    let text = "d=2\nrounds=5\ndegree=30\nseed_std=3f1a36e2eb1c432d\nstarts=0,0\ncolumns=\nvalues=\n";
+    let text = "d=2\nrounds=5\ndegree=20\nseed_std=3f1a36e2eb1c432d\nstarts=0,0\ncolumns=\nvalues=\n";
     assert_writes(text.as_bytes(), |out| write_run_in(&Graph::new(&[0, 0], &[], &[]), 2, Params::new(), out));
 }
 

@@ -30,9 +30,8 @@ degree_most = 1_000
 abbrev pub default_rounds : ℕ
 default_rounds = 5
 
--- 20 in document 01, 30 by request W6
 abbrev pub default_degree : ℕ
-default_degree = 30
+default_degree = 20
 
 -- 1e-4
 abbrev pub default_seed_std : Float

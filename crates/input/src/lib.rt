@@ -51,8 +51,7 @@ impl SpectralParams {
 
     pub const DEFAULT_ROUNDS: u64 = 5;
 
-    // The Rust has 20.
-    pub const DEFAULT_DEGREE: u64 = 30;
+    pub const DEFAULT_DEGREE: u64 = 20;
 
     pub const DEFAULT_SEED_STD: f64 = 1e-4;
 

@@ -1,4 +1,4 @@
-// The nightly map job: the seed of a stored graph at new parameters with the map's own degree. Standard input is a run file, of which only the
+// The nightly map job: the seed of a stored graph at the parameters of `SpectralParams::new()`. Standard input is a run file, of which only the
 // dimensions and the graph are used; what is printed must be the stored map, bit for bit.
 ghost use Rattle.std.specs.Prelude.{◌≡◌, ◌≤◌, length};
 
@@ -6,15 +6,12 @@ use input::SpectralParams;
 use libc::{STDIN_FILENO, STDOUT_FILENO};
 use reading::RunFile;
 
-// The degree of the stored map, which is the Rust's default. That of new parameters is another one since request W6.
-const MAP_DEGREE: u64 = 20;
-
 // Prints the map of the run file's graph.
 fn print_map(file: RunFile)
     requires start_count_bound { (file.start_count ≤ 65) × (file.column_count ≤ 1024) × (file.value_count ≤ 1024) }
     requires starts_len { (length file.starts ≡ 65) × (length file.columns ≡ 1024) × (length file.values ≡ 1024) }
 {
-    let params = SpectralParams::new().degree(MAP_DEGREE).params;
+    let params = SpectralParams::new();
     let start_count = file.start_count;
     let column_count = file.column_count;
     let value_count = file.value_count;

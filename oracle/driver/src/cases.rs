@@ -19,7 +19,7 @@ const NAMED: [(&str, Build); 14] = [
     ("degree1000", || Request { degree: 1000, ..of_number(113, 2) }),
     ("std-least", || Request { seed_std: f64::from_bits(1), ..of_number(224, 3) }),
     ("std-most", || Request { seed_std: f64::MAX, ..of_number(224, 3) }),
-    ("defaults", || of_number(224, 2).with_defaults()),
+    ("defaults", || Request { rounds: 5, degree: 20, seed_std: 1e-4, ..of_number(224, 2) }),
     ("no-entries64", || no_entries(64, 7)),
     ("minus-zeros", minus_zeros),
     ("nan-not-last", nan_not_last),

@@ -74,7 +74,7 @@ pub fn request(number: u64) -> Request {
     };
     let made = make::request(d, rounds, degree, seed_std, &rows);
     match has_defaults(&mut parameters, size, number) {
-        true => made.with_defaults(),
+        true => with_defaults(made),
         false => made,
     }
 }
@@ -90,7 +90,11 @@ fn row_count(rng: &mut Rng, size: Size) -> usize {
     }
 }
 
-/// Document 000's defaults. Their hundred passes are dear on many rows, so fewer of those have them.
+fn with_defaults(request: Request) -> Request {
+    Request { rounds: 5, degree: 20, seed_std: 1e-4, ..request }
+}
+
+/// The defaults' hundred passes are dear on many rows, so fewer of those have them.
 fn has_defaults(rng: &mut Rng, size: Size, number: u64) -> bool {
     match size {
         Size::Made | Size::Hundreds => rng.once_in(8),
@@ -99,10 +103,10 @@ fn has_defaults(rng: &mut Rng, size: Size, number: u64) -> bool {
     }
 }
 
-/// One in eight has document 000's defaults; a few small ones have the most rounds or the highest degree.
+/// One in eight has the defaults; a few small ones have the most rounds or the highest degree.
 fn with_limits(rng: &mut Rng, made: Request) -> Request {
     if rng.once_in(8) {
-        return made.with_defaults();
+        return with_defaults(made);
     }
     let is_small = made.n() <= 12;
     match rng.below(1_000) {

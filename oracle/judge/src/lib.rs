@@ -24,11 +24,6 @@ pub const MAX_D: usize = 7;
 /// Extra columns beside D; document 000's SPECTRAL_OVERSAMPLE.
 pub const OVERSAMPLE: usize = 8;
 
-/// Document 000's default parameters, named: what is compared at them stays so, whatever new parameters of the library have.
-pub const DEFAULT_ROUNDS: usize = 5;
-pub const DEFAULT_DEGREE: usize = 20;
-pub const DEFAULT_SEED_STD: f64 = 1e-4;
-
 /// What document 000 is asked, with the graph already known to be well formed.
 #[derive(Clone, Debug, PartialEq)]
 pub struct Request {
@@ -44,11 +39,6 @@ pub struct Request {
 impl Request {
     pub fn n(&self) -> usize {
         self.starts.len().saturating_sub(1)
-    }
-
-    /// The same request at document 000's defaults.
-    pub fn with_defaults(self) -> Request {
-        Request { rounds: DEFAULT_ROUNDS, degree: DEFAULT_DEGREE, seed_std: DEFAULT_SEED_STD, ..self }
     }
 
     /// The entries of row `i` as a range of places.
@@ -205,15 +195,6 @@ mod tests {
         let (_, record) = seed_recorded(&request).unwrap();
         assert_eq!(record.degrees[0].to_bits(), (-0.0f64).to_bits());
         assert_eq!(record.v0[0].to_bits(), (-0.0f64).to_bits());
-    }
-
-    #[test]
-    fn the_defaults_that_are_named_are_document_000s() {
-        let theirs = spectral::SpectralParams::new();
-        assert_eq!(
-            (theirs.rounds, theirs.degree, theirs.seed_std),
-            (DEFAULT_ROUNDS, DEFAULT_DEGREE, DEFAULT_SEED_STD)
-        );
     }
 
     #[test]

@@ -43,12 +43,7 @@ unsafe extern "C" {
     ) -> Verdict;
 }
 
-/// Document 000's defaults.
-const DEFAULTS: SpectralParams = SpectralParams {
-    rounds: judge::DEFAULT_ROUNDS as u64,
-    degree: judge::DEFAULT_DEGREE as u64,
-    seed_std: judge::DEFAULT_SEED_STD,
-};
+const DEFAULTS: SpectralParams = SpectralParams { rounds: 5, degree: 20, seed_std: 1e-4 };
 
 /// A request; each check changes one thing of a valid one.
 #[derive(Clone)]

@@ -1,7 +1,7 @@
 //! Graphs of 30 entries a row, made by a stated rule: a ring of near neighbours and six random matchings.
 
 use bench::{Random, splitmix_unit};
-use judge::{DEFAULT_DEGREE, DEFAULT_ROUNDS, DEFAULT_SEED_STD, Request};
+use judge::Request;
 
 const NEAR: usize = 12; // neighbours on either side
 const MATCHINGS: usize = 6;
@@ -130,7 +130,6 @@ pub fn neighbours(rows: usize, order: Order) -> Graph {
     }
     let row_of = |e: usize| (e / (2 * NEAR + MATCHINGS)) as u32;
     let values = columns.iter().enumerate().map(|(e, &c)| value(row_of(e), c)).collect();
-    let (rounds, degree, seed_std) = (DEFAULT_ROUNDS, DEFAULT_DEGREE, DEFAULT_SEED_STD);
-    let request = Request { d: 2, rounds, degree, seed_std, starts, columns, values };
+    let request = Request { d: 2, rounds: 5, degree: 20, seed_std: 1e-4, starts, columns, values };
     Graph { starts: request.starts.iter().map(|&s| s as u64).collect(), request }
 }

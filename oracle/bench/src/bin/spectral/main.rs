@@ -1,8 +1,8 @@
 //! The one call, and the held run on threads, beside document 000 and rayon: [--quick] and other words.
 //!
-//! Both compute the seed of the same graphs at document 000's default parameters, which are named. Seeds are compared bit for bit, a NaN
-//! with any NaN, and a difference where promise 2 holds ends with status 1. Times are shown and never judged: the least of some runs, the
-//! two sides in turns. Each run gets memory that is as fresh as the allocator has it, since document 000 takes its own within the call.
+//! Both compute the seed of the same graphs at the default parameters. Seeds are compared bit for bit, a NaN with any NaN, and a difference
+//! where promise 2 holds ends with status 1. Times are shown and never judged: the least of some runs, the two sides in turns. Each run
+//! gets memory that is as fresh as the allocator has it, since document 000 takes its own within the call.
 //!
 //! Words:
 //! --quick           graphs of at most 10,000 rows

@@ -29,9 +29,7 @@ fn note(same: bool, promised: bool) -> &'static str {
 impl Tables {
     pub fn new(limit: Limit) -> Tables {
         println!(
-            "{} rounds of degree {}, 30 entries a row, columns rising; least of {} to {} runs, the sides in turns",
-            judge::DEFAULT_ROUNDS,
-            judge::DEFAULT_DEGREE,
+            "5 rounds of degree 20, 30 entries a row, columns rising; least of {} to {} runs, the sides in turns",
             Limit::LEAST,
             limit.most
         );
