@@ -1,4 +1,4 @@
--- , case by case of the pattern.
+-- Case by case of the pattern.
 use Rattle.std.proofs.Common.{◌^◌, ◌<◌, T, sym, subst, arith}
 use lib.Ieee.{binary64, fits, of_bits, to_bits, div}
 use Rattle.numbers.proofs.Values.{no_nan, nan-root, infinity_root, zero-root, minus_zero-root, minus_bits, finite-bits, finite_pattern, bits-root}

@@ -1,4 +1,4 @@
-use Rattle.std.proofs.Common.{◌∙◌, mod-lt, arith, pow_pos, shr_lt, rules}
+use Rattle.std.proofs.Common.{◌∙◌, mod-lt, pow_pos, shr_lt}
 use mir.Facts.{Fits-bits}
 use Rattle.numbers.proofs.Wrap.{half_product, wrap_halves}
 use Rattle.numbers.proofs.wrapping_mul.Goals as goal

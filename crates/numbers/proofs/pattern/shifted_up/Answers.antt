@@ -1,4 +1,4 @@
--- : the count of leading zeros brings the highest digit to place 52.
+-- The count of leading zeros brings the highest digit to place 52.
 use Rattle.std.proofs.Common.{◌≡◌, ◌-◌, ◌*◌, ◌%◌, ◌^◌, ◌<◌, mod-eq_of_lt, arith}
 use lib.Count.{count_leading_zeros}
 use Rattle.numbers.proofs.Values.{Zeros, zeros_of, shifted}

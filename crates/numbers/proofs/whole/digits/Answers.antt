@@ -1,5 +1,5 @@
--- : each step's root is that of the next upper digits of a.
-use Rattle.std.proofs.Common.{◌*◌, ◌/◌, ◌%◌, ◌^◌, arith, lit<, lit≤, rules}
+-- Each step's root is that of the next upper digits of a.
+use Rattle.std.proofs.Common.{◌*◌, ◌/◌, ◌%◌, ◌^◌, arith, lit<, lit≤}
 use Rattle.numbers.specs.Steps.{Floored}
 use Rattle.numbers.proofs.Digits.{lengthens, joined}
 use Rattle.numbers.proofs.whole.digits.Goals as goal

@@ -1,5 +1,5 @@
-use Rattle.std.proofs.Common.{◌-◌, ⊎_elim, arith}
-use Rattle.numbers.proofs.Digits.{Turn, turn_first_lem, turn_odd, turn_even, turn_small, turn_last}
+use Rattle.std.proofs.Common.{arith}
+use Rattle.numbers.proofs.Digits.{turn_first_lem, turn_odd, turn_even, turn_small, turn_last}
 use Rattle.numbers.proofs.whole.first_digits.Goals as goal
 use Rattle.numbers.proofs.whole.first_digits.Goals.{then-s-t, else-s-t}
 
@@ -30,6 +30,6 @@ loop-i-preserved c =
     let a = c.args.a in
     let t = c.loop-i-test.true in
     elim c.if-s-t.branch [
-      then-s-t w ↦ rw (w.less-is, w.digit-is) (turn_odd a l.bits l.q l.r l.i l.invariant t w.if-s-t.true)
-    | else-s-t w ↦ rw (w.less-is, w.digit-is) (turn_even a l.bits l.q l.r l.i l.invariant t w.if-s-t.false)
+      | then-s-t w ↦ rw (w.less-is, w.digit-is) (turn_odd a l.bits l.q l.r l.i l.invariant t w.if-s-t.true)
+      | else-s-t w ↦ rw (w.less-is, w.digit-is) (turn_even a l.bits l.q l.r l.i l.invariant t w.if-s-t.false)
     ]

@@ -1,5 +1,5 @@
--- : `Divided` has every bound, and the quotient is right or too large by one.
-use Rattle.std.proofs.Common.{⊎_elim, arith, rules}
+-- `Divided` has every bound, and the quotient is right or too large by one.
+use Rattle.std.proofs.Common.{arith}
 use Rattle.numbers.proofs.Digits.{Divided, divided, Ended, exact, corrected}
 use Rattle.numbers.proofs.whole.more_digits.Goals as goal
 use Rattle.numbers.proofs.whole.more_digits.Goals.{Joined-left-square, Start, then-left-square, else-left-square}
@@ -12,8 +12,8 @@ ended c =
     let a = c.args in
     let h = c.requires in
     elim c.if-left-square.branch [
-      then-left-square w ↦ rw (w.less-is, w.more-is) (corrected a.s a.r a.base a.low h w.if-left-square.true)
-    | else-left-square w ↦ rw (w.less-is, w.more-is) (exact a.s a.r a.base a.low h w.if-left-square.false)
+      | then-left-square w ↦ rw (w.less-is, w.more-is) (corrected a.s a.r a.base a.low h w.if-left-square.true)
+      | else-left-square w ↦ rw (w.less-is, w.more-is) (exact a.s a.r a.base a.low h w.if-left-square.false)
     ]
 
 pub overflow_mul-twice : goal.overflow_mul-twice
