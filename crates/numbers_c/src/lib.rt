@@ -1,10 +1,12 @@
-// The functions that C and Rust call by name.
+// What C and Rust link of numbers: the root and the start numbers, under their C names.
+#![tactic(auto)]
+
 ghost use Rattle.std.specs.Prelude.{◌≡◌};
 ghost use Rattle.std.specs.Float.{binary64};
 ghost use Rattle.definition.specs.Root.{root_of};
 ghost use Rattle.definition.specs.SplitmixUnit.{splitmix_unit};
 
-use crate::{root, splitmix_unit};
+use numbers::{root, splitmix_unit};
 
 #[unsafe(no_mangle)]
 pub extern "C" fn numbers_root(x: f64) -> f64
