@@ -1,5 +1,4 @@
 use Rattle.printing.proofs.Texts.{differs_bits, no_nan}
-use borrow.Author.Rules.{rules}
 use Rattle.printing.proofs.bits_of.Goals as goal
 
 pub returns-then-x : goal.returns-then-x

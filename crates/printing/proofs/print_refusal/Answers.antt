@@ -4,7 +4,6 @@ use native.Mathlib.Omega.{arith}
 use lib.ListN.{length}
 use Rattle.printing.specs.Printed.{answer_name, at_name, refusal_text}
 use Rattle.printing.proofs.Texts.{pair, pair_most}
-use borrow.Author.Rules.{rules}
 use Rattle.printing.proofs.print_refusal.Goals as goal
 
 pub returns : goal.returns

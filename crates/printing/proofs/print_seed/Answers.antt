@@ -7,7 +7,6 @@ use Rattle.state.specs.Said.{counts_in}
 use Rattle.printing.specs.Printed.{head_text, rows_text, seed_text}
 use Rattle.printing.proofs.Putting.{put_then}
 use Rattle.printing.proofs.Texts.{rows-most}
-use borrow.Author.Rules.{rules}
 use Rattle.printing.proofs.print_seed.Goals as goal
 
 pub returns : goal.returns

@@ -8,7 +8,6 @@ use Rattle.printing.proofs.Putting.{written-put}
 use Rattle.printing.proofs.Texts.{bits-length}
 use Rattle.printing.proofs.Putting.{written-put}
 use Rattle.printing.proofs.Texts.{bits-length}
-use borrow.Author.Rules.{rules}
 use Rattle.printing.proofs.put_bits.Goals as goal
 
 pub returns : goal.returns

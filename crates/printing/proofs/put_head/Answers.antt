@@ -7,7 +7,6 @@ use Rattle.state.specs.Said.{counts_in}
 use Rattle.printing.specs.Printed.{answer_name, n_name, passes_name, refreshed_name, zeroed_name, isolated_name}
 use Rattle.printing.proofs.Putting.{Put, put_then}
 use Rattle.printing.proofs.Texts.{pair, pair_most, head-pairs}
-use borrow.Author.Rules.{rules}
 use Rattle.printing.proofs.put_head.Goals as goal
 
 pub put_pair-b-requires : goal.put_pair-b-requires

@@ -5,7 +5,6 @@ use native.Mathlib.Omega.{arith}
 use Rattle.digits.specs.Digits.{decimal}
 use Rattle.digits.proofs.Decimals.{decimal-most}
 use Rattle.printing.proofs.Putting.{put_then, written-put}
-use borrow.Author.Rules.{rules}
 use Rattle.printing.proofs.put_labelled.Goals as goal
 
 pub overflow_add-next : goal.overflow_add-next

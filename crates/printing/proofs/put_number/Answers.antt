@@ -5,7 +5,6 @@ use native.Mathlib.Omega.{arith}
 use Rattle.printing.specs.Printed.{bits_text, number_text}
 use Rattle.printing.proofs.Putting.{Put, put_then}
 use Rattle.printing.proofs.Texts.{number-first, number-later}
-use borrow.Author.Rules.{rules}
 use Rattle.printing.proofs.put_number.Goals as goal
 
 pub returns-then-c-eq0 : goal.returns-then-c-eq0

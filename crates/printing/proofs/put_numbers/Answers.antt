@@ -1,9 +1,9 @@
 use mathlib.Core.Path.{◌≡◌, refl, sym, subst}
 use mathlib.Core.List.{List}
-use Prim.Native.Nat.{ℕ, ◌+◌, ◌-◌, ◌≤◌}
+use Prim.Native.Nat.{ℕ, ◌+◌}
 use native.Mathlib.Omega.{arith}
 use lib.Ieee.{Float, nan}
-use lib.ListN.{length, get_or}
+use lib.ListN.{get_or}
 use Rattle.printing.specs.Printed.{number_text, numbers_text}
 use Rattle.printing.proofs.Putting.{Put, put-none, put_then}
 use Rattle.printing.proofs.Texts.{numbers-none, numbers_more, numbers-most}

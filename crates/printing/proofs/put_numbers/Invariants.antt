@@ -1,13 +1,10 @@
 -- The invariant: the first c numbers are put.
-use mathlib.Core.Path.{◌≡◌, refl, sym, subst}
-use mathlib.Core.List.{List}
-use Prim.Native.Nat.{ℕ, ◌+◌, ◌-◌, ◌≤◌}
-use native.Mathlib.Omega.{arith}
-use lib.Ieee.{Float, nan}
+use mathlib.Core.Path.{◌≡◌}
+use Prim.Native.Nat.{◌+◌, ◌-◌, ◌≤◌}
+use lib.Ieee.{nan}
 use lib.ListN.{length, get_or}
-use Rattle.printing.specs.Printed.{number_text, numbers_text}
-use Rattle.printing.proofs.Putting.{Put, put-none, put_then}
-use Rattle.printing.proofs.Texts.{numbers-none, numbers_more, numbers-most}
+use Rattle.printing.specs.Printed.{numbers_text}
+use Rattle.printing.proofs.Putting.{Put}
 use Rattle.printing.proofs.put_numbers.Given as goal
 
 abbrev pub invariant-loop-c : goal.invariant-loop-c

@@ -2,7 +2,6 @@ use native.Mathlib.Omega.{arith}
 use Rattle.printing.specs.Printed.{labelled}
 use Rattle.printing.proofs.Putting.{put_then}
 use Rattle.printing.proofs.Texts.{labelled-most}
-use borrow.Author.Rules.{rules}
 use Rattle.printing.proofs.put_pair.Goals as goal
 
 pub put_labelled-requires : goal.put_labelled-requires

@@ -6,7 +6,6 @@ use lib.ListN.{get_or}
 use Rattle.printing.specs.Printed.{row_name, numbers_text}
 use Rattle.printing.proofs.Putting.{Put, put_then}
 use Rattle.printing.proofs.Texts.{numbers-most}
-use borrow.Author.Rules.{rules}
 use Rattle.printing.proofs.put_row.Goals as goal
 
 pub put_text-requires : goal.put_text-requires

@@ -1,14 +1,10 @@
 -- The invariant: the first i rows are put.
-use mathlib.Core.Path.{◌≡◌, refl, sym, subst}
-use mathlib.Core.List.{List}
-use Prim.Native.Nat.{ℕ, ◌+◌, ◌-◌, ◌*◌, ◌≤◌}
-use native.Mathlib.Omega.{arith}
-use lib.Ieee.{Float, nan}
+use mathlib.Core.Path.{◌≡◌}
+use Prim.Native.Nat.{◌+◌, ◌-◌, ◌*◌, ◌≤◌}
+use lib.Ieee.{nan}
 use lib.ListN.{length, get_or}
-use Rattle.definition.proofs.Places.{row_end}
-use Rattle.printing.specs.Printed.{row_text, rows_text}
-use Rattle.printing.proofs.Putting.{Put, put-none, put_then}
-use Rattle.printing.proofs.Texts.{rows_none, rows_more, rows-most}
+use Rattle.printing.specs.Printed.{rows_text}
+use Rattle.printing.proofs.Putting.{Put}
 use Rattle.printing.proofs.put_rows.Given as goal
 
 abbrev pub invariant-loop-i : goal.invariant-loop-i

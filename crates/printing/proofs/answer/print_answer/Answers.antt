@@ -2,7 +2,6 @@ use Rattle.input.specs.Said.{verdict_of}
 use Rattle.state.specs.Said.{counts_in}
 use Rattle.printing.proofs.Answers.{seed_passed, refusal-says, seed-says}
 use Rattle.printing.proofs.Leaving.{same_text}
-use borrow.Author.Rules.{rules}
 use Rattle.printing.proofs.answer.print_answer.Goals as goal
 
 pub returns-then-verdict-ne0 : goal.returns-then-verdict-ne0

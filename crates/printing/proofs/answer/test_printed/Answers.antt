@@ -1,7 +1,6 @@
 use mathlib.Core.Path.{◌∙◌}
 use Rattle.input.specs.Said.{verdict_of}
 use Rattle.printing.proofs.Answers.{refusal_tests, seed_tests}
-use borrow.Author.Rules.{rules}
 use Rattle.printing.proofs.answer.test_printed.Goals as goal
 
 pub returns-then-asked-ne0 : goal.returns-then-asked-ne0

@@ -5,7 +5,6 @@ use native.Mathlib.Omega.{arith}
 use Rattle.input.proofs.Accepted.{dims_valid}
 use Rattle.input.proofs.Verdicts.{test_passes}
 use Rattle.printing.proofs.Answers.{bad_dims, no_rows, many_rows, short-seed, right-seed}
-use borrow.Author.Rules.{rules}
 use Rattle.printing.proofs.answer.test_seed.Goals as goal
 
 pub returns-then-dims-ne0 : goal.returns-then-dims-ne0

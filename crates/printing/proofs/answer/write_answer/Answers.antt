@@ -5,7 +5,6 @@ use Rattle.input.proofs.Verdicts.{test_passes}
 use Rattle.state.specs.Said.{counts_in}
 use Rattle.printing.specs.Answer.{test_printed, answer_text, test_answer}
 use Rattle.printing.proofs.Leaving.{leaves_refused, leaves_tested, put_front, put_count}
-use borrow.Author.Rules.{rules}
 use Rattle.printing.proofs.answer.write_answer.Goals as goal
 
 pub returns-then-tested-ne0 : goal.returns-then-tested-ne0

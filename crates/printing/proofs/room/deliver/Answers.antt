@@ -1,9 +1,6 @@
-use mathlib.Core.Path.{◌∙◌, ap₂}
-use Prim.Native.Nat.{ℕ}
+use mathlib.Core.Path.{◌∙◌}
 use native.Mathlib.Omega.{arith}
-use Rattle.definition.specs.Refusals.{refused}
 use Rattle.printing.proofs.Leaving.{leaves_room, leaves_short}
-use borrow.Author.Rules.{rules}
 use Rattle.printing.proofs.room.deliver.Goals as goal
 
 pub returns-then-out-text : goal.returns-then-out-text
