@@ -1,14 +1,12 @@
-use mathlib.Core.Path.{◌≡◌, sym, ap, subst, ◌∙◌}
+use mathlib.Core.Path.{ap, subst, ◌∙◌}
 use mathlib.Core.List.{List}
 use Prim.Native.Nat.{ℕ}
 use native.Mathlib.Omega.{arith}
 use lib.ListN.{length}
-use lib.Seq.{length-take-le}
 use Rattle.printing.proofs.Putting.{Put}
 use Rattle.reading.specs.Grammar.{columns_line, line_text}
 use Rattle.writing.specs.Putting.{line_named}
 use Rattle.writing.proofs.Lines.{line_alike}
-use borrow.Author.Rules.{rules}
 use Rattle.writing.proofs.put_columns.Goals as goal
 
 pub put_line-requires : goal.put_line-requires

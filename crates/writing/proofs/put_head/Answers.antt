@@ -1,4 +1,4 @@
-use mathlib.Core.Path.{◌≡◌, ap, subst}
+use mathlib.Core.Path.{ap, subst}
 use mathlib.Core.List.{List}
 use Prim.Native.Nat.{ℕ}
 use native.Mathlib.Omega.{arith}
@@ -8,7 +8,6 @@ use Rattle.input.specs.Said.{params_of}
 use Rattle.printing.proofs.Putting.{Put}
 use Rattle.reading.specs.Grammar.{d_line, rounds_line, degree_line, seed_std_line}
 use Rattle.writing.proofs.Runs.{put_four, one_line, head-lines, head-length}
-use borrow.Author.Rules.{rules}
 use Rattle.writing.proofs.put_head.Goals as goal
 
 pub put_one-at1-requires : goal.put_one-at1-requires

@@ -1,4 +1,4 @@
-use mathlib.Core.Path.{◌≡◌, sym, ap, subst, ◌∙◌}
+use mathlib.Core.Path.{sym, ap, subst, ◌∙◌}
 use mathlib.Core.List.{List, [], ◌∷◌}
 use Prim.Native.Nat.{ℕ}
 use native.Mathlib.Omega.{arith}
@@ -7,7 +7,6 @@ use Rattle.printing.proofs.Putting.{Put, put_then}
 use Rattle.reading.specs.Grammar.{Line, number_text}
 use Rattle.writing.specs.Putting.{line_named, item_text}
 use Rattle.writing.proofs.Lines.{item_first, item_later}
-use borrow.Author.Rules.{rules}
 use Rattle.writing.proofs.put_item.Goals as goal
 
 pub put_number-requires : goal.put_number-requires

@@ -1,13 +1,11 @@
-use mathlib.Core.Path.{◌≡◌, subst}
+use mathlib.Core.Path.{subst}
 use mathlib.Core.List.{List, [], ◌∷◌, ◌++◌}
 use Prim.Native.Nat.{ℕ}
 use native.Mathlib.Omega.{arith}
-use lib.ListN.{length}
 use Rattle.printing.proofs.Putting.{Put, put_then}
 use Rattle.reading.specs.Grammar.{joined}
 use Rattle.writing.specs.Putting.{line_named}
 use Rattle.writing.proofs.Lines.{line-parts, line-length}
-use borrow.Author.Rules.{rules}
 use Rattle.writing.proofs.put_line.Goals as goal
 
 pub put_text-named-requires : goal.put_text-named-requires

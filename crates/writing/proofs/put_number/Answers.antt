@@ -1,6 +1,5 @@
-use mathlib.Core.Path.{◌≡◌, sym, ap, subst, ◌∙◌}
-use mathlib.Core.Bool.{Bool, true, false, cond}
-use mathlib.Core.List.{List, []}
+use mathlib.Core.Path.{◌≡◌, sym, ap, subst}
+use mathlib.Core.List.{List}
 use Prim.Native.Nat.{ℕ, ◌+◌}
 use native.Mathlib.Omega.{arith}
 use lib.ListN.{length}
@@ -8,7 +7,6 @@ use Rattle.digits.specs.Digits.{decimal, hex}
 use Rattle.digits.proofs.Hexes.{hex-length}
 use Rattle.printing.proofs.Putting.{Put, written-put}
 use Rattle.writing.proofs.Lines.{number-hex, number-decimal}
-use borrow.Author.Rules.{rules}
 use Rattle.writing.proofs.put_number.Goals as goal
 
 pub returns-then-in_hex : goal.returns-then-in_hex

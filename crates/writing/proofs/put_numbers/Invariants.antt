@@ -1,14 +1,11 @@
 -- The invariant: the first i numbers are put.
-use mathlib.Core.Path.{◌≡◌, refl, sym, ap, subst}
-use mathlib.Core.List.{List, []}
-use Prim.Native.Nat.{ℕ, ◌+◌, ◌-◌, ◌≤◌, ◌<◌}
-use native.Mathlib.Omega.{arith}
-use lib.ListN.{length, get_or, take}
-use lib.Seq.{take_all}
-use Rattle.printing.proofs.Putting.{Put, put-none, put_then}
-use Rattle.reading.specs.Grammar.{Line, joined}
-use Rattle.writing.specs.Putting.{line_named, item_text}
-use Rattle.writing.proofs.Lines.{joined-none, joined-more, joined-room}
+use mathlib.Core.Path.{◌≡◌}
+use mathlib.Core.List.{[]}
+use Prim.Native.Nat.{◌-◌, ◌≤◌}
+use lib.ListN.{length, take}
+use Rattle.printing.proofs.Putting.{Put}
+use Rattle.reading.specs.Grammar.{joined}
+use Rattle.writing.specs.Putting.{line_named}
 use Rattle.writing.proofs.put_numbers.Given as goal
 
 abbrev pub invariant-loop-i : goal.invariant-loop-i

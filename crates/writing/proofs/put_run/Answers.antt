@@ -1,4 +1,4 @@
-use mathlib.Core.Path.{◌≡◌, ap, subst}
+use mathlib.Core.Path.{ap, subst}
 use mathlib.Core.Bool.{false}
 use mathlib.Core.List.{List}
 use Prim.Native.Nat.{ℕ}
@@ -10,7 +10,6 @@ use Rattle.printing.proofs.Putting.{Put}
 use Rattle.reading.specs.Grammar.{starts_line, columns_line, values_line, line_text}
 use Rattle.writing.specs.Putting.{line_named, head_text}
 use Rattle.writing.proofs.Runs.{put_four, run-lines, run_length}
-use borrow.Author.Rules.{rules}
 use Rattle.writing.proofs.put_run.Goals as goal
 
 pub put_head-at4-requires : goal.put_head-at4-requires

@@ -1,6 +1,5 @@
 use Rattle.files.specs.RunText.{test_file}
 use Rattle.input.proofs.Verdicts.{refuses, goes_on_lem}
-use borrow.Author.Rules.{rules}
 use Rattle.writing.proofs.test_file.Goals as goal
 
 pub returns-then-dims-ne0 : goal.returns-then-dims-ne0

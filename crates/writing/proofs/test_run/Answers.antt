@@ -1,6 +1,5 @@
 use Rattle.files.specs.RunText.{test_run}
 use Rattle.input.proofs.Verdicts.{refuses, goes_on_lem}
-use borrow.Author.Rules.{rules}
 use Rattle.writing.proofs.test_run.Goals as goal
 
 pub returns-then-sizes-ne0 : goal.returns-then-sizes-ne0

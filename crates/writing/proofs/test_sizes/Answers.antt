@@ -3,7 +3,6 @@ use borrow.Author.Tests.{lt-ltb, le-ltb}
 use lib.Dec.{ltb}
 use Rattle.files.specs.RunText.{test_sizes}
 use Rattle.input.proofs.Verdicts.{faulty, faultless, faulty_first, faultless_first}
-use borrow.Author.Rules.{rules}
 use Rattle.writing.proofs.test_sizes.Goals as goal
 
 pub returns-then-rounds-gt-ROUNDS_MOST : goal.returns-then-rounds-gt-ROUNDS_MOST

@@ -1,7 +1,6 @@
-use mathlib.Core.Path.{◌≡◌, refl}
-use Prim.Native.Nat.{ℕ, ◌-◌, ◌≤◌}
+use mathlib.Core.Path.{refl}
 use native.Mathlib.Omega.{arith}
-use lib.ListN.{length, take, length-set}
+use lib.ListN.{length-set}
 use Rattle.reading.proofs.Arrays.{copy_more}
 use Rattle.writing.proofs.Arrays.{copy_done}
 use Rattle.writing.proofs.widened.Goals as goal

@@ -1,10 +1,7 @@
 -- The invariant: the first i columns are copied.
-use mathlib.Core.Path.{◌≡◌, refl}
-use Prim.Native.Nat.{ℕ, ◌-◌, ◌≤◌}
-use native.Mathlib.Omega.{arith}
-use lib.ListN.{length, take, length-set}
-use Rattle.reading.proofs.Arrays.{copy_more}
-use Rattle.writing.proofs.Arrays.{copy_done}
+use mathlib.Core.Path.{◌≡◌}
+use Prim.Native.Nat.{◌-◌, ◌≤◌}
+use lib.ListN.{length, take}
 use Rattle.writing.proofs.widened.Given as goal
 
 abbrev pub invariant-loop-i : goal.invariant-loop-i

@@ -1,14 +1,10 @@
-use mathlib.Core.Path.{◌∙◌, sym, ap}
-use Prim.Native.Nat.{ℕ}
 use native.Mathlib.Omega.{arith}
-use lib.ListN.{length}
 use Rattle.files.specs.RunText.{run_text, test_run, test_write}
 use Rattle.files.proofs.Sized.{sized}
 use Rattle.files.proofs.Fits.{text-fits}
 use Rattle.input.specs.Said.{params_of}
 use Rattle.input.proofs.Verdicts.{test_passes}
 use Rattle.printing.proofs.Leaving.{leaves_refused, leaves_tested, put_front, put_count}
-use borrow.Author.Rules.{rules}
 use Rattle.writing.proofs.write_run.Goals as goal
 
 pub returns-then-tested-ne0 : goal.returns-then-tested-ne0
