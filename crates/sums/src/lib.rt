@@ -2,6 +2,8 @@
 //
 // A partial is summed in an array of its own and copied out at the end: the compiler can't know that a lent list is not the block that is
 // read, and would store every sum at every row.
+#![tactic(auto)]
+
 ghost use Rattle.std.specs.Prelude.{◌≡◌, ◌+◌, ◌*◌, ◌≤◌, ◌<◌, length, replicate};
 ghost use Rattle.definition.specs.Arith.{ieee64};
 ghost use Rattle.definition.specs.ChunkedColumnReduce.{sum_up, square};
