@@ -11,8 +11,6 @@ ghost use Rattle.reading.specs.Parts.{line_of, Reads, one_of, ReadsHead, read_en
 
 use digits::{Decimal, Hex};
 
-mod exports; // the function that C and Rust call by name
-
 const BYTES_MOST: usize = 32768;
 
 // The text program's sizes. The Ritz record of so many rounds fits its memory.

@@ -1,9 +1,7 @@
 -- The invariant: the columns up to i are copied.
-use mathlib.Core.Path.{◌≡◌, refl}
+use mathlib.Core.Path.{◌≡◌}
 use Prim.Native.Nat.{◌-◌, ◌≤◌}
-use native.Mathlib.Omega.{arith}
-use lib.ListN.{length, take, length-set}
-use Rattle.reading.proofs.Arrays.{copy_more, copy_all}
+use lib.ListN.{length, take}
 use Rattle.reading.proofs.columns_of.Given as goal
 
 abbrev pub invariant-loop-i : goal.invariant-loop-i

@@ -2,7 +2,6 @@ use mathlib.Core.Path.{sym, ◌∙◌}
 use mathlib.Core.List.{[]}
 use Rattle.reading.specs.Parts.{line_of}
 use Rattle.reading.proofs.Steps.{number-hex, number-decimal}
-use borrow.Author.Rules.{rules}
 use Rattle.reading.proofs.number_at.Goals as goal
 
 pub returns-in-Bits : goal.returns-in-Bits

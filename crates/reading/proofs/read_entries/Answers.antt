@@ -3,7 +3,6 @@ use native.Mathlib.Omega.{arith}
 use Rattle.reading.specs.ReadRun.{record_of, floats_of}
 use Rattle.reading.proofs.Arrays.{taken, not_taken, not_found}
 use Rattle.reading.proofs.Lists.{columns-wrong, values-wrong, end_wrong, end_right, right-record, columns-below, inside-next}
-use borrow.Author.Rules.{rules}
 use Rattle.reading.proofs.read_entries.Goals as goal
 
 pub read_line-line6-requires : goal.read_line-line6-requires

@@ -1,7 +1,6 @@
 use mathlib.Core.Path.{sym, ◌∙◌}
 use native.Mathlib.Omega.{arith}
 use Rattle.reading.proofs.Rest.{one_not_found, one_inside, d-right, d-wrong, rounds-right, rounds-wrong, degree-right, degree-wrong, seed-right, seed-wrong}
-use borrow.Author.Rules.{rules}
 use Rattle.reading.proofs.read_head.Goals as goal
 
 pub returns-in_default : goal.returns-in_default

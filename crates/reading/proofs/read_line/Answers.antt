@@ -1,11 +1,9 @@
 use mathlib.Core.Path.{refl, sym, ◌∙◌}
 use mathlib.Core.List.{[]}
 use Prim.Native.Nat.{◌+◌}
-use borrow.Author.Tests.{not-true, not-false}
 use lib.ListN.{length}
 use Rattle.reading.specs.Parts.{line_of}
 use Rattle.reading.proofs.Steps.{line-no-name, line_list, list_numbers, list_empty, list_few, numbers_fields, reads_none, reads_found, reads_as}
-use borrow.Author.Rules.{rules}
 use Rattle.reading.proofs.read_line.Goals as goal
 
 pub returns-then-not-stands_at : goal.returns-then-not-stands_at

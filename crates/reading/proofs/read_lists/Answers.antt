@@ -3,7 +3,6 @@ use native.Mathlib.Omega.{arith}
 use Rattle.reading.specs.ReadRun.{record_of}
 use Rattle.reading.proofs.Arrays.{taken, not_taken, not_found}
 use Rattle.reading.proofs.Lists.{starts-wrong, starts-right, inside-next}
-use borrow.Author.Rules.{rules}
 use Rattle.reading.proofs.read_lists.Goals as goal
 
 pub read_line-line5-requires : goal.read_line-line5-requires

@@ -1,10 +1,7 @@
-use borrow.Author.Rules.{rules}
-use mathlib.Core.List.{[]}
 use native.Mathlib.Omega.{arith}
-use lib.ListN.{length, length-set}
-use Rattle.reading.specs.Parts.{line_of}
-use Rattle.reading.proofs.Steps.{Scan, scan_start, scan_full, scan_wrong, scan_last, scan_other, scan_more, inside_of}
-use Prim.Native.Nat.{ℕ, ◌-◌}
+use lib.ListN.{length-set}
+use Rattle.reading.proofs.Steps.{scan_start, scan_full, scan_wrong, scan_last, scan_other, scan_more, inside_of}
+use Prim.Native.Nat.{ℕ}
 use mathlib.Core.Path.{◌≡◌, refl, sym, ◌∙◌}
 use Rattle.digits.specs.declared.Decimal.{Decimal}
 use Rattle.digits.specs.declared.Decimal.TheVariants as D

@@ -1,12 +1,9 @@
 -- The invariant: the numbers stored come before those still to be read.
-use borrow.Author.Rules.{rules}
-use mathlib.Core.Path.{sym, ◌∙◌}
 use mathlib.Core.List.{[]}
 use Prim.Native.Nat.{◌-◌}
-use native.Mathlib.Omega.{arith}
-use lib.ListN.{length, length-set}
+use lib.ListN.{length}
 use Rattle.reading.specs.Parts.{line_of}
-use Rattle.reading.proofs.Steps.{Scan, scan_start, scan_full, scan_wrong, scan_last, scan_other, scan_more, inside_of}
+use Rattle.reading.proofs.Steps.{Scan}
 use Rattle.reading.proofs.read_numbers.Given as goal
 
 abbrev pub invariant-loop-count : goal.invariant-loop-count

@@ -1,5 +1,4 @@
 use Rattle.reading.proofs.Steps.{one_found, one-wrong}
-use borrow.Author.Rules.{rules}
 use Rattle.reading.proofs.read_one.Goals as goal
 
 pub returns-in-Found : goal.returns-in-Found

@@ -5,7 +5,6 @@ use Rattle.reading.specs.ReadRun.{record_of}
 use Rattle.reading.specs.Parts.{on_head, head_end}
 use Rattle.reading.specs.declared.HeadRead.{HeadRead}
 use Rattle.reading.proofs.Rest.{few_bytes, many_bytes}
-use borrow.Author.Rules.{rules}
 use Rattle.reading.proofs.read_run.Goals as goal
 
 pub returns-then-bytes-gt-BYTES_MOST : goal.returns-then-bytes-gt-BYTES_MOST

@@ -1,9 +1,5 @@
-use borrow.Author.Rules.{rules}
-use mathlib.Core.Path.{◌≡◌, sym, ◌∙◌}
-use Prim.Native.Nat.{◌+◌, ◌-◌, ◌≤◌}
+use mathlib.Core.Path.{sym, ◌∙◌}
 use native.Mathlib.Omega.{arith}
-use lib.ListN.{length, drop}
-use Rattle.reading.specs.ReadLine.{stands_at}
 use Rattle.reading.proofs.Steps.{stands-start, stands_same, stands_other, stands_end}
 use Rattle.reading.proofs.stands_at.Goals as goal
 

@@ -1,11 +1,8 @@
 -- The invariant: the name stands where what is left of it does.
-use borrow.Author.Rules.{rules}
-use mathlib.Core.Path.{◌≡◌, sym, ◌∙◌}
+use mathlib.Core.Path.{◌≡◌}
 use Prim.Native.Nat.{◌+◌, ◌-◌, ◌≤◌}
-use native.Mathlib.Omega.{arith}
 use lib.ListN.{length, drop}
 use Rattle.reading.specs.ReadLine.{stands_at}
-use Rattle.reading.proofs.Steps.{stands-start, stands_same, stands_other, stands_end}
 use Rattle.reading.proofs.stands_at.Given as goal
 
 abbrev pub invariant-loop-i : goal.invariant-loop-i

@@ -1,5 +1,4 @@
 use Rattle.reading.proofs.Patterns.{nan_pattern, no-nan_pattern}
-use borrow.Author.Rules.{rules}
 use Rattle.reading.proofs.value_of.Goals as goal
 
 pub returns-then-bits-gt9218868437227405312 : goal.returns-then-bits-gt9218868437227405312

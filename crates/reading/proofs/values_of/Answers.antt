@@ -1,8 +1,6 @@
-use borrow.Author.Rules.{rules}
 use mathlib.Core.Path.{◌≡◌, refl}
-use Prim.Native.Nat.{◌-◌, ◌≤◌}
 use native.Mathlib.Omega.{arith}
-use lib.ListN.{length, take, length-set}
+use lib.ListN.{length, length-set}
 use Rattle.reading.specs.ReadRun.{floats_of}
 use Rattle.reading.proofs.Arrays.{floats_step, floats_all}
 use Rattle.reading.proofs.values_of.Goals as goal

@@ -1,11 +1,8 @@
 -- The invariant: the floats up to i are copied.
-use borrow.Author.Rules.{rules}
-use mathlib.Core.Path.{◌≡◌, refl}
+use mathlib.Core.Path.{◌≡◌}
 use Prim.Native.Nat.{◌-◌, ◌≤◌}
-use native.Mathlib.Omega.{arith}
-use lib.ListN.{length, take, length-set}
+use lib.ListN.{length, take}
 use Rattle.reading.specs.ReadRun.{floats_of}
-use Rattle.reading.proofs.Arrays.{floats_step, floats_all}
 use Rattle.reading.proofs.values_of.Given as goal
 
 abbrev pub invariant-loop-i : goal.invariant-loop-i
