@@ -2,7 +2,6 @@
 use native.Mathlib.Omega.{arith}
 use Rattle.definition.specs.Arith.{ieee64}
 use Rattle.sums.proofs.Partials.{summed-put}
-use borrow.Author.Rules.{rules}
 use Rattle.sums.proofs.dots_partial.Goals as goal
 
 pub returns : goal.returns

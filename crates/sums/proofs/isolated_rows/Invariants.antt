@@ -1,14 +1,11 @@
 -- The invariant: count is that of the first i rows.
-use mathlib.Core.Path.{◌≡◌, sym, ap, ap₂, ◌∙◌}
+use mathlib.Core.Path.{◌≡◌}
 use mathlib.Core.List.{List}
-use Prim.Native.Nat.{ℕ, ◌+◌, ◌≤◌, ◌-◌}
-use native.Mathlib.Omega.{arith}
-use borrow.Author.Rules.{rules}
+use Prim.Native.Nat.{ℕ, ◌≤◌, ◌-◌}
 use lib.Ieee.{Float}
 use Rattle.definition.specs.Arith.{ieee64}
 use Rattle.definition.specs.Memory.{vector_of}
 use Rattle.definition.specs.SpectralEmbedding.{isolated_rows}
-use Rattle.definition.proofs.Isolated.{isolated-none, isolated-more, isolated-most}
 use Rattle.sums.proofs.isolated_rows.Given as goal
 
 abbrev pub counted : List Float → ℕ → ℕ

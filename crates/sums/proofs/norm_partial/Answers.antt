@@ -1,10 +1,7 @@
 -- One sum, stored at the partial's place.
 use native.Mathlib.Nat.{le_refl}
-use native.Mathlib.Omega.{arith}
 use Rattle.definition.specs.Memory.{block_of, place}
 use Rattle.definition.proofs.Fill.{fill_start, fill_step}
-use Rattle.definition.proofs.Blocks.{span-places}
-use borrow.Author.Rules.{rules}
 use Rattle.sums.proofs.norm_partial.Goals as goal
 
 pub returns : goal.returns

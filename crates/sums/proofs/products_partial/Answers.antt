@@ -3,7 +3,6 @@ use native.Mathlib.Omega.{arith}
 use Rattle.definition.specs.Arith.{ieee64}
 use Rattle.definition.proofs.Places.{square-most}
 use Rattle.sums.proofs.Partials.{summed-put}
-use borrow.Author.Rules.{rules}
 use Rattle.sums.proofs.products_partial.Goals as goal
 
 pub put_partial-requires : goal.put_partial-requires

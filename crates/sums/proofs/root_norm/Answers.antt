@@ -7,7 +7,6 @@ use Rattle.definition.specs.Arith.{ieee64}
 use Rattle.definition.specs.Root.{root_of}
 use Rattle.definition.specs.SpectralEmbedding.{root_norm}
 use Rattle.definition.proofs.Sums.{sum_cong}
-use borrow.Author.Rules.{rules}
 use Rattle.sums.proofs.root_norm.Goals as goal
 
 pub returns : goal.returns

@@ -2,9 +2,7 @@
 use native.Mathlib.Omega.{arith}
 use Rattle.definition.specs.Arith.{ieee64}
 use Rattle.definition.specs.Memory.{block_of, place}
-use Rattle.definition.proofs.Blocks.{span-places}
 use Rattle.sums.proofs.Partials.{summed-put}
-use borrow.Author.Rules.{rules}
 use Rattle.sums.proofs.squares_partial.Goals as goal
 
 pub returns : goal.returns

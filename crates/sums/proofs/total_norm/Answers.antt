@@ -10,7 +10,6 @@ use Rattle.definition.specs.Arith.{ieee64}
 use Rattle.definition.specs.Root.{root_of}
 use Rattle.definition.proofs.Fill.{fill_in}
 use Rattle.definition.proofs.Sums.{sum_cong}
-use borrow.Author.Rules.{rules}
 use Rattle.sums.proofs.total_norm.Goals as goal
 
 pub totals-requires : goal.totals-requires

@@ -1,9 +1,6 @@
-use mathlib.Core.Path.{◌≡◌, refl}
-use Prim.Native.Nat.{◌≤◌, ◌-◌}
+use mathlib.Core.Path.{refl}
 use native.Mathlib.Omega.{arith}
-use lib.ListN.{length, length-set}
-use lib.Ieee.{nan}
-use Rattle.definition.specs.Memory.{fill_range, vector_of}
+use lib.ListN.{length-set}
 use Rattle.definition.proofs.Fill.{fill_start, fill_step, fill_to}
 use Rattle.sums.proofs.put.put_part.Goals as goal
 

@@ -1,11 +1,9 @@
 -- The part below q is copied.
-use mathlib.Core.Path.{◌≡◌, refl}
+use mathlib.Core.Path.{◌≡◌}
 use Prim.Native.Nat.{◌≤◌, ◌-◌}
-use native.Mathlib.Omega.{arith}
-use lib.ListN.{length, length-set}
+use lib.ListN.{length}
 use lib.Ieee.{nan}
 use Rattle.definition.specs.Memory.{fill_range, vector_of}
-use Rattle.definition.proofs.Fill.{fill_start, fill_step, fill_to}
 use Rattle.sums.proofs.put.put_part.Given as goal
 
 abbrev pub invariant-loop-q : goal.invariant-loop-q

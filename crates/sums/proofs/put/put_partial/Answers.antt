@@ -3,7 +3,6 @@ use mathlib.Core.Path.{◌≡◌}
 use Prim.Native.Nat.{◌+◌, ◌-◌}
 use native.Mathlib.Omega.{arith}
 use Rattle.definition.proofs.Fill.{fill_part}
-use borrow.Author.Rules.{rules}
 use Rattle.sums.proofs.put.put_partial.Goals as goal
 
 pub returns : goal.returns

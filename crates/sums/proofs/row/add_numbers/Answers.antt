@@ -1,10 +1,6 @@
-use mathlib.Core.Path.{◌≡◌, refl}
-use Prim.Native.Nat.{◌≤◌, ◌-◌, ◌+◌}
+use mathlib.Core.Path.{refl}
 use native.Mathlib.Omega.{arith}
-use lib.ListN.{get_or}
-use lib.Ieee.{nan}
 use Rattle.definition.specs.Arith.{ieee64}
-use Rattle.sums.specs.Accumulators.{raised}
 use Rattle.sums.proofs.Partials.{raised-none, raised-more, raised_to}
 use Rattle.sums.proofs.row.add_numbers.Goals as goal
 

@@ -1,12 +1,8 @@
 use mathlib.Core.Path.{◌≡◌, sym, ap}
-use Prim.Native.Nat.{ℕ, ◌≤◌, ◌-◌, ◌*◌, ◌+◌}
+use Prim.Native.Nat.{ℕ, ◌≤◌, ◌*◌, ◌+◌}
 use native.Mathlib.Omega.{arith}
-use lib.ListN.{get_or}
-use lib.Ieee.{nan}
 use Rattle.definition.specs.Arith.{ieee64}
-use Rattle.definition.specs.Memory.{row_at, column_at}
 use Rattle.definition.proofs.Places.{row_next, row_end, square-most}
-use Rattle.sums.specs.Accumulators.{raised}
 use Rattle.sums.proofs.Partials.{row_in, column_in_lem, raised-none, raised-next, raised_to}
 use Rattle.sums.proofs.row.add_products.Goals as goal
 use Rattle.sums.proofs.row.add_products.Goals.{In-loop-p}

@@ -1,14 +1,11 @@
 -- The sums of the rows below p of the products have the row.
-use mathlib.Core.Path.{◌≡◌, sym, ap}
-use Prim.Native.Nat.{ℕ, ◌≤◌, ◌-◌, ◌*◌, ◌+◌}
-use native.Mathlib.Omega.{arith}
+use mathlib.Core.Path.{◌≡◌}
+use Prim.Native.Nat.{◌≤◌, ◌-◌, ◌*◌, ◌+◌}
 use lib.ListN.{get_or}
 use lib.Ieee.{nan}
 use Rattle.definition.specs.Arith.{ieee64}
 use Rattle.definition.specs.Memory.{row_at, column_at}
-use Rattle.definition.proofs.Places.{row_next, row_end, square-most}
 use Rattle.sums.specs.Accumulators.{raised}
-use Rattle.sums.proofs.Partials.{row_in, column_in_lem, raised-none, raised-next, raised_to}
 use Rattle.sums.proofs.row.add_products.Given as goal
 
 abbrev pub invariant-loop-p : goal.invariant-loop-p

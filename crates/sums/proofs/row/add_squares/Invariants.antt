@@ -1,13 +1,11 @@
 -- The sums below q have the row.
-use mathlib.Core.Path.{◌≡◌, refl}
+use mathlib.Core.Path.{◌≡◌}
 use Prim.Native.Nat.{◌≤◌, ◌-◌, ◌+◌}
-use native.Mathlib.Omega.{arith}
 use lib.ListN.{get_or}
 use lib.Ieee.{nan}
 use Rattle.definition.specs.Arith.{ieee64}
 use Rattle.definition.specs.ChunkedColumnReduce.{square}
 use Rattle.sums.specs.Accumulators.{raised}
-use Rattle.sums.proofs.Partials.{raised-none, raised-more, raised_to}
 use Rattle.sums.proofs.row.add_squares.Given as goal
 
 abbrev pub invariant-loop-q : goal.invariant-loop-q

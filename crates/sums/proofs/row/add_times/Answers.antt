@@ -1,10 +1,7 @@
 use mathlib.Core.Path.{◌≡◌}
-use Prim.Native.Nat.{◌≤◌, ◌-◌, ◌+◌}
+use Prim.Native.Nat.{◌-◌, ◌+◌}
 use native.Mathlib.Omega.{arith}
-use lib.ListN.{get_or}
-use lib.Ieee.{nan}
 use Rattle.definition.specs.Arith.{ieee64}
-use Rattle.sums.specs.Accumulators.{raised}
 use Rattle.sums.proofs.Partials.{raised-none, raised-more, raised_to}
 use Rattle.sums.proofs.row.add_times.Goals as goal
 

@@ -1,6 +1,5 @@
 -- Each arm returns what the test picks.
 use mathlib.Core.Path.{sym, ◌∙◌}
-use borrow.Author.Rules.{rules}
 use Rattle.sums.proofs.row.isolated.Goals as goal
 
 pub returns-then-above_floor : goal.returns-then-above_floor

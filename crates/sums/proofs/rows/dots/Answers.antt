@@ -1,13 +1,9 @@
-use mathlib.Core.Path.{◌≡◌}
-use Prim.Native.Nat.{◌≤◌, ◌<◌, ◌-◌, ◌*◌, ◌+◌}
+use Prim.Native.Nat.{◌<◌, ◌*◌, ◌+◌}
 use native.Mathlib.Omega.{arith}
 use lib.ListN.{length}
-use lib.Ieee.{nan}
 use Rattle.definition.specs.Arith.{ieee64}
-use Rattle.definition.specs.OrthonormalizeBlock.{dot_term}
-use Rattle.definition.specs.Memory.{vector_of, block_of, place}
+use Rattle.definition.specs.Memory.{block_of, place}
 use Rattle.definition.proofs.Places.{row_below}
-use Rattle.sums.specs.Accumulators.{summed}
 use Rattle.sums.proofs.Partials.{summed-none, summed-more, summed_to}
 use Rattle.sums.proofs.rows.dots.Goals as goal
 use Rattle.sums.proofs.rows.dots.Goals.{In-loop-i}

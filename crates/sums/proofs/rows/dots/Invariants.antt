@@ -1,15 +1,11 @@
 -- The sums have the rows below i.
 use mathlib.Core.Path.{◌≡◌}
-use Prim.Native.Nat.{◌≤◌, ◌<◌, ◌-◌, ◌*◌, ◌+◌}
-use native.Mathlib.Omega.{arith}
-use lib.ListN.{length}
+use Prim.Native.Nat.{◌≤◌, ◌-◌, ◌+◌}
 use lib.Ieee.{nan}
 use Rattle.definition.specs.Arith.{ieee64}
 use Rattle.definition.specs.OrthonormalizeBlock.{dot_term}
-use Rattle.definition.specs.Memory.{vector_of, block_of, place}
-use Rattle.definition.proofs.Places.{row_below}
+use Rattle.definition.specs.Memory.{vector_of, block_of}
 use Rattle.sums.specs.Accumulators.{summed}
-use Rattle.sums.proofs.Partials.{summed-none, summed-more, summed_to}
 use Rattle.sums.proofs.rows.dots.Given as goal
 
 abbrev pub invariant-loop-i : goal.invariant-loop-i

@@ -1,11 +1,8 @@
-use mathlib.Core.Path.{◌≡◌}
-use Prim.Native.Nat.{◌≤◌, ◌-◌, ◌*◌, ◌+◌}
+use Prim.Native.Nat.{◌≤◌, ◌*◌, ◌+◌}
 use native.Mathlib.Omega.{arith}
-use lib.ListN.{length, get_or}
-use lib.Ieee.{nan}
+use lib.ListN.{length}
 use Rattle.definition.specs.Arith.{ieee64}
 use Rattle.definition.proofs.Places.{row_end}
-use Rattle.sums.specs.Accumulators.{summed}
 use Rattle.sums.proofs.Partials.{summed-none, summed-more, summed_to}
 use Rattle.sums.proofs.rows.numbers.Goals as goal
 use Rattle.sums.proofs.rows.numbers.Goals.{In-loop-i}

@@ -1,13 +1,10 @@
 -- The sums have the rows below i.
 use mathlib.Core.Path.{◌≡◌}
 use Prim.Native.Nat.{◌≤◌, ◌-◌, ◌*◌, ◌+◌}
-use native.Mathlib.Omega.{arith}
-use lib.ListN.{length, get_or}
+use lib.ListN.{get_or}
 use lib.Ieee.{nan}
 use Rattle.definition.specs.Arith.{ieee64}
-use Rattle.definition.proofs.Places.{row_end}
 use Rattle.sums.specs.Accumulators.{summed}
-use Rattle.sums.proofs.Partials.{summed-none, summed-more, summed_to}
 use Rattle.sums.proofs.rows.numbers.Given as goal
 
 abbrev pub invariant-loop-i : goal.invariant-loop-i

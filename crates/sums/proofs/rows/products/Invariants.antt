@@ -1,13 +1,10 @@
 -- The sums have the rows below i.
 use mathlib.Core.Path.{◌≡◌}
-use Prim.Native.Nat.{◌≤◌, ◌-◌, ◌*◌, ◌+◌}
-use native.Mathlib.Omega.{arith}
+use Prim.Native.Nat.{◌≤◌, ◌-◌, ◌*◌}
 use lib.Ieee.{nan}
 use Rattle.definition.specs.Arith.{ieee64}
-use Rattle.definition.specs.Memory.{block_of, place}
-use Rattle.definition.proofs.Places.{row_end}
+use Rattle.definition.specs.Memory.{block_of}
 use Rattle.sums.specs.Accumulators.{summed, product_term}
-use Rattle.sums.proofs.Partials.{summed-none, summed-more, summed_to}
 use Rattle.sums.proofs.rows.products.Given as goal
 
 abbrev pub invariant-loop-i : goal.invariant-loop-i

@@ -1,10 +1,9 @@
 use mathlib.Core.Path.{◌≡◌, sym, ap, ◌∙◌}
-use Prim.Native.Nat.{◌≤◌, ◌<◌, ◌-◌, ◌*◌, ◌+◌}
+use Prim.Native.Nat.{◌<◌, ◌*◌, ◌+◌}
 use native.Mathlib.Omega.{arith}
-use lib.ListN.{length, get_or}
-use lib.Ieee.{nan}
+use lib.ListN.{length}
 use Rattle.definition.specs.Arith.{ieee64}
-use Rattle.definition.specs.ChunkedColumnReduce.{sum_up, square}
+use Rattle.definition.specs.ChunkedColumnReduce.{sum_up}
 use Rattle.definition.proofs.Places.{row_below}
 use Rattle.definition.proofs.Sums.{sum-none, sum_more}
 use Rattle.sums.proofs.rows.square_sum.Goals as goal

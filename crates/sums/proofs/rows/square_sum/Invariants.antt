@@ -1,13 +1,10 @@
 -- Acc is the sum over the rows from `first` up to i.
-use mathlib.Core.Path.{◌≡◌, sym, ap, ◌∙◌}
-use Prim.Native.Nat.{◌≤◌, ◌<◌, ◌-◌, ◌*◌, ◌+◌}
-use native.Mathlib.Omega.{arith}
-use lib.ListN.{length, get_or}
+use mathlib.Core.Path.{◌≡◌}
+use Prim.Native.Nat.{◌≤◌, ◌-◌, ◌*◌, ◌+◌}
+use lib.ListN.{get_or}
 use lib.Ieee.{nan}
 use Rattle.definition.specs.Arith.{ieee64}
 use Rattle.definition.specs.ChunkedColumnReduce.{sum_up, square}
-use Rattle.definition.proofs.Places.{row_below}
-use Rattle.definition.proofs.Sums.{sum-none, sum_more}
 use Rattle.sums.proofs.rows.square_sum.Given as goal
 
 abbrev pub invariant-loop-i : goal.invariant-loop-i
