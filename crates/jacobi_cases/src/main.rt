@@ -1,6 +1,8 @@
 // Runs stored matrices through `ritz::jacobi_eigen` and compares the answers with the stored ones bit for bit, a NaN with any NaN.
 // Standard input, for each matrix: k, then the k * k numbers of the matrix, of the answer and of the vectors, each as 16 hex digits and
 // a newline. Anything but a k from 9 to 15 ends it.
+#![tactic(auto)]
+
 ghost use Rattle.std.specs.Prelude.{◌+◌, ◌≤◌};
 ghost use Rattle.definition.specs.Requirements.{Width};
 
