@@ -1,0 +1,16 @@
+use mathlib.Core.Path.{◌≡◌, sym, ◌∙◌}
+use Prim.Native.Nat.{◌-◌, ◌≤◌}
+use native.Mathlib.Omega.{arith}
+use native.Mathlib.Nat.{sub-zero}
+use Rattle.definition.specs.Refusals.{first_from}
+use Rattle.definition.proofs.First.{first-here, first-later, first-none}
+use Rattle.columns.proofs.Firsts.{first_short}
+use borrow.Author.Tests.{lt-ltb, le-ltb, eq-eqb}
+use Rattle.definition.specs.Marks.{unsound, sound}
+use Rattle.columns.proofs.marks.marks_sound.Given as goal
+
+abbrev pub invariant-loop-h : goal.invariant-loop-h
+invariant-loop-h l = (l.h ≤ l.c) × (first_from (unsound l.marks) 0 l.c ≡ first_from (unsound l.marks) l.h (l.c - l.h))
+
+abbrev pub decreases-loop-h : goal.decreases-loop-h
+decreases-loop-h l = l.c - l.h

@@ -1,0 +1,17 @@
+use mathlib.Core.Path.{◌≡◌, sym, ap, ◌∙◌}
+use Prim.Native.Nat.{◌+◌, ◌*◌, ◌-◌, ◌≤◌}
+use native.Mathlib.Omega.{arith}
+use native.Mathlib.Nat.{mul-le-mul}
+use lib.Ieee.{nan}
+use Rattle.definition.specs.Arith.{ieee64}
+use Rattle.definition.specs.Memory.{place, vector_of, block_of}
+use Rattle.definition.specs.ChunkedColumnReduce.{sum_up}
+use Rattle.definition.proofs.Sums.{sum-none, sum_more}
+use Rattle.definition.proofs.Places.{row_end}
+use Rattle.columns.proofs.output.turned_number.Given as goal
+
+abbrev pub invariant-loop-p : goal.invariant-loop-p
+invariant-loop-p l = (l.p ≤ l.k) × (l.sum ≡ sum_up ieee64 (λ i. ieee64.mul (vector_of nan l.row i) (block_of nan l.k l.k l.vectors i l.q)) 0 l.p)
+
+abbrev pub decreases-loop-p : goal.decreases-loop-p
+decreases-loop-p l = l.k - l.p
