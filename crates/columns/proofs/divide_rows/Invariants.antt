@@ -1,12 +1,9 @@
-use mathlib.Core.Path.{ap}
-use Prim.Native.Nat.{◌+◌, ◌*◌, ◌-◌, ◌≤◌}
-use native.Mathlib.Omega.{arith}
-use lib.ListN.{length}
+use Prim.Native.Nat.{◌-◌}
 use lib.Ieee.{nan}
 use Rattle.definition.specs.Arith.{ieee64}
 use Rattle.definition.specs.Memory.{block_of}
 use Rattle.definition.specs.OrthonormalizeBlock.{with_column}
-use Rattle.columns.proofs.Fills.{Turn, turn_none, turn_end, turn_room, turn_ahead, turn_column}
+use Rattle.columns.proofs.Fills.{Turn}
 use Rattle.columns.proofs.divide_rows.Given as goal
 
 abbrev pub invariant-loop-r : goal.invariant-loop-r

@@ -1,14 +1,9 @@
-use borrow.Author.Rules.{rules}
-use mathlib.Core.Path.{ap, ◌∙◌}
-use Prim.Native.Nat.{◌+◌, ◌*◌, ◌-◌, ◌≤◌}
-use native.Mathlib.Omega.{arith}
-use lib.ListN.{length}
+use Prim.Native.Nat.{◌+◌, ◌-◌}
 use lib.Ieee.{nan}
-use Rattle.definition.specs.Arith.{ieee64, narrowed}
+use Rattle.definition.specs.Arith.{ieee64}
 use Rattle.definition.specs.Memory.{block_of}
 use Rattle.definition.specs.OrthonormalizeBlock.{with_column, fresh_index}
-use Rattle.columns.proofs.Fills.{Turn, turn_none, turn_end, turn_room, turn_column}
-use Rattle.definition.specs.SplitmixUnit.{splitmix_unit}
+use Rattle.columns.proofs.Fills.{Turn}
 use Rattle.columns.proofs.refresh_rows.Given as goal
 
 abbrev pub invariant-loop-r : goal.invariant-loop-r

@@ -1,10 +1,7 @@
 use mathlib.Core.Path.{◌≡◌, sym, ap, ◌∙◌}
-use Prim.Native.Nat.{◌-◌, ◌≤◌}
 use native.Mathlib.Omega.{arith}
 use native.Mathlib.Nat.{zero-add}
-use lib.Ieee.{nan}
 use Rattle.definition.specs.Arith.{ieee64}
-use Rattle.definition.specs.Memory.{vector_of}
 use Rattle.definition.specs.ChunkedColumnReduce.{add_up}
 use Rattle.definition.specs.OrthonormalizeBlock.{delta}
 use Rattle.definition.proofs.Sums.{add_none, add-more}

@@ -1,13 +1,9 @@
-use mathlib.Core.Path.{◌≡◌, sym, ap, ◌∙◌}
+use mathlib.Core.Path.{◌≡◌}
 use Prim.Native.Nat.{◌-◌, ◌≤◌}
-use native.Mathlib.Omega.{arith}
-use native.Mathlib.Nat.{zero-add}
 use lib.Ieee.{nan}
 use Rattle.definition.specs.Arith.{ieee64}
 use Rattle.definition.specs.Memory.{vector_of}
 use Rattle.definition.specs.ChunkedColumnReduce.{add_up}
-use Rattle.definition.specs.OrthonormalizeBlock.{delta}
-use Rattle.definition.proofs.Sums.{add_none, add-more}
 use Rattle.columns.proofs.row_delta.Given as goal
 
 abbrev pub invariant-loop-p : goal.invariant-loop-p

@@ -1,4 +1,3 @@
-use borrow.Author.Rules.{rules}
 use native.Mathlib.Omega.{arith}
 use Rattle.definition.specs.Arith.{ieee64}
 use Rattle.definition.proofs.Blocks.{span-places}

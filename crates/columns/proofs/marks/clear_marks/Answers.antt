@@ -1,8 +1,6 @@
-use mathlib.Core.Path.{◌≡◌, refl}
-use Prim.Native.Nat.{◌-◌, ◌≤◌}
+use mathlib.Core.Path.{refl}
 use native.Mathlib.Omega.{arith}
-use lib.ListN.{length, length-set}
-use Rattle.definition.specs.Memory.{fill_range}
+use lib.ListN.{length-set}
 use Rattle.definition.proofs.Fill.{fill_start, fill_step, fill_to}
 use Rattle.columns.proofs.marks.clear_marks.Goals as goal
 

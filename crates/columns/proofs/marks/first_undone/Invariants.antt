@@ -1,10 +1,6 @@
-use mathlib.Core.Path.{◌≡◌, sym, ◌∙◌}
+use mathlib.Core.Path.{◌≡◌}
 use Prim.Native.Nat.{◌-◌, ◌≤◌}
-use native.Mathlib.Omega.{arith}
-use native.Mathlib.Nat.{sub-zero}
 use Rattle.definition.specs.Refusals.{first_from}
-use Rattle.definition.proofs.First.{first-here, first-later, first-none}
-use borrow.Author.Tests.{eq-eqb, ne_eqb}
 use Rattle.definition.specs.Marks.{undone}
 use Rattle.columns.proofs.marks.first_undone.Given as goal
 

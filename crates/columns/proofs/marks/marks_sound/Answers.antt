@@ -1,12 +1,10 @@
 use mathlib.Core.Path.{◌≡◌, sym, ◌∙◌}
-use Prim.Native.Nat.{◌-◌, ◌≤◌}
 use native.Mathlib.Omega.{arith}
 use native.Mathlib.Nat.{sub-zero}
-use Rattle.definition.specs.Refusals.{first_from}
 use Rattle.definition.proofs.First.{first-here, first-later, first-none}
 use Rattle.columns.proofs.Firsts.{first_short}
 use borrow.Author.Tests.{lt-ltb, le-ltb, eq-eqb}
-use Rattle.definition.specs.Marks.{unsound, sound}
+use Rattle.definition.specs.Marks.{sound}
 use Rattle.columns.proofs.marks.marks_sound.Goals as goal
 
 pub loop-h-init : goal.loop-h-init

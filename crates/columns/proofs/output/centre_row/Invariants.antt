@@ -1,10 +1,8 @@
-use mathlib.Core.Path.{◌≡◌, refl}
-use Prim.Native.Nat.{◌+◌, ◌-◌}
-use native.Mathlib.Omega.{arith}
+use Prim.Native.Nat.{◌-◌}
 use lib.Ieee.{nan}
 use Rattle.definition.specs.Arith.{ieee64}
 use Rattle.definition.specs.Memory.{vector_of}
-use Rattle.columns.proofs.Fills.{Cells, cells_none, cells_more, cells_ahead, cells_end}
+use Rattle.columns.proofs.Fills.{Cells}
 use Rattle.columns.proofs.output.centre_row.Given as goal
 
 abbrev pub invariant-loop-j : goal.invariant-loop-j

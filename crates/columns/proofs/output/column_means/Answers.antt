@@ -1,10 +1,8 @@
-use mathlib.Core.Path.{◌≡◌, refl}
-use Prim.Native.Nat.{◌-◌, ◌^◌, ◌≤◌}
+use mathlib.Core.Path.{refl}
+use Prim.Native.Nat.{◌^◌, ◌≤◌}
 use native.Mathlib.Omega.{arith}
-use lib.ListN.{length, replicate, length-set}
-use lib.Ieee.{nan, in_float}
-use Rattle.definition.specs.Arith.{ieee64}
-use Rattle.definition.specs.Memory.{vector_of, fill_range}
+use lib.ListN.{length-set}
+use lib.Ieee.{in_float}
 use lib.Dec.{le→leb}
 use Rattle.definition.proofs.Fill.{fill_start, fill_step, fill_to}
 use Rattle.columns.proofs.output.column_means.Goals as goal

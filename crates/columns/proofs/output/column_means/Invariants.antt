@@ -1,12 +1,9 @@
-use mathlib.Core.Path.{◌≡◌, refl}
-use Prim.Native.Nat.{◌-◌, ◌^◌, ◌≤◌}
-use native.Mathlib.Omega.{arith}
-use lib.ListN.{length, replicate, length-set}
-use lib.Ieee.{nan, in_float}
+use mathlib.Core.Path.{◌≡◌}
+use Prim.Native.Nat.{◌-◌, ◌≤◌}
+use lib.ListN.{length, replicate}
+use lib.Ieee.{nan}
 use Rattle.definition.specs.Arith.{ieee64}
 use Rattle.definition.specs.Memory.{vector_of, fill_range}
-use lib.Dec.{le→leb}
-use Rattle.definition.proofs.Fill.{fill_start, fill_step, fill_to}
 use Rattle.columns.proofs.output.column_means.Given as goal
 
 abbrev pub invariant-loop-j : goal.invariant-loop-j

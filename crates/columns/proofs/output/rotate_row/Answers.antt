@@ -1,10 +1,7 @@
 use mathlib.Core.Path.{◌≡◌, refl}
 use Prim.Native.Nat.{◌+◌, ◌-◌}
 use native.Mathlib.Omega.{arith}
-use lib.Ieee.{nan}
-use Rattle.definition.specs.Arith.{ieee64}
-use Rattle.definition.specs.Memory.{vector_of, block_of}
-use Rattle.columns.proofs.Fills.{Cells, cells_none, cells_more, cells_end}
+use Rattle.columns.proofs.Fills.{cells_none, cells_more, cells_end}
 use Rattle.definition.specs.ChebyshevRayleighRitz.{rotated}
 use Rattle.columns.proofs.output.rotate_row.Goals as goal
 

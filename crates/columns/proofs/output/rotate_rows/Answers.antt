@@ -4,12 +4,10 @@ use native.Mathlib.Omega.{arith}
 use lib.ListN.{length, get_or}
 use lib.Ieee.{nan}
 use Rattle.definition.specs.Arith.{ieee64}
-use Rattle.definition.specs.Memory.{vector_of, place, block_of}
-use Rattle.columns.proofs.Fills.{Turn, turn_none, turn_end, turn_room, turn_row}
-use Rattle.definition.specs.ChebyshevRayleighRitz.{rotated}
+use Rattle.definition.specs.Memory.{place, block_of}
+use Rattle.columns.proofs.Fills.{turn_none, turn_end, turn_room, turn_row}
 use Rattle.definition.specs.SpectralEmbedding.{unscaled}
 use Rattle.definition.proofs.Places.{row_end}
-use Rattle.columns.specs.Rows.{shifted}
 use Rattle.columns.proofs.Lent.{cut_number, cut_length}
 use Rattle.columns.proofs.Locals.{rotated_cong}
 use Rattle.columns.proofs.output.rotate_rows.Goals as goal

@@ -2,9 +2,7 @@ use mathlib.Core.Path.{◌≡◌, refl}
 use Prim.Native.Nat.{◌+◌, ◌-◌}
 use native.Mathlib.Omega.{arith}
 use lib.Ieee.{nan}
-use Rattle.definition.specs.Arith.{ieee64}
-use Rattle.definition.specs.Memory.{vector_of}
-use Rattle.columns.proofs.Fills.{Cells, cells_none, cells_more, cells_ahead, cells_end}
+use Rattle.columns.proofs.Fills.{cells_none, cells_more, cells_ahead, cells_end}
 use Rattle.columns.proofs.output.scale_row.Goals as goal
 
 pub loop-j-init : goal.loop-j-init

@@ -1,10 +1,9 @@
-use Prim.Native.Nat.{◌+◌, ◌*◌, ◌-◌, ◌≤◌}
+use Prim.Native.Nat.{◌+◌, ◌*◌, ◌≤◌}
 use native.Mathlib.Omega.{arith}
 use lib.ListN.{length}
 use lib.Ieee.{nan}
 use Rattle.definition.specs.Arith.{ieee64}
-use Rattle.definition.specs.Memory.{vector_of, block_of}
-use Rattle.columns.proofs.Fills.{Turn, turn_none, turn_end, turn_room, turn_each}
+use Rattle.columns.proofs.Fills.{turn_none, turn_end, turn_room, turn_each}
 use Rattle.definition.specs.SpectralEmbedding.{scaled}
 use Rattle.columns.proofs.output.scale_rows.Goals as goal
 use Rattle.columns.proofs.output.scale_rows.Goals.{In-loop-r}

@@ -1,13 +1,9 @@
-use mathlib.Core.Path.{◌≡◌, sym, ap, ◌∙◌}
-use Prim.Native.Nat.{◌+◌, ◌*◌, ◌-◌, ◌≤◌}
-use native.Mathlib.Omega.{arith}
-use native.Mathlib.Nat.{mul-le-mul}
+use mathlib.Core.Path.{◌≡◌}
+use Prim.Native.Nat.{◌-◌, ◌≤◌}
 use lib.Ieee.{nan}
 use Rattle.definition.specs.Arith.{ieee64}
-use Rattle.definition.specs.Memory.{place, vector_of, block_of}
+use Rattle.definition.specs.Memory.{vector_of, block_of}
 use Rattle.definition.specs.ChunkedColumnReduce.{sum_up}
-use Rattle.definition.proofs.Sums.{sum-none, sum_more}
-use Rattle.definition.proofs.Places.{row_end}
 use Rattle.columns.proofs.output.turned_number.Given as goal
 
 abbrev pub invariant-loop-p : goal.invariant-loop-p
