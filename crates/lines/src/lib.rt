@@ -9,7 +9,7 @@ ghost use Rattle.lines.specs.Read.{ReadsLine, ReadsBanner};
 ghost use Rattle.lines.specs.Parts.{line_goes_on, word_at, line_at, end_length, Skips, number_of, ReadsNumber, kind_with, same_as, ReadsWord, four_tests, ReadsDigits, ReadsPlain};
 
 // Behind the banner: nothing, a comment, two numbers, three numbers, or what no line may say.
-#[derive(Drop)]
+#[derive(Clone, Copy)]
 pub enum Kind {
     Blank,
     Comment,

@@ -1,6 +1,6 @@
 -- The graph that a file's entries are: "Each entry becomes value 1.0, off the diagonal it is placed in both rows, a row's entries rise by
 -- column". Definitions only.
-use Rattle.std.specs.Prelude.{Bool, cond, ◌||◌, List, [], ◌∷◌, ◌++◌, ℕ, zero, suc, ◌+◌, Float, length, get_or, replicate}
+use Rattle.std.specs.Prelude.{Bool, cond, ◌||◌, List, [], ◌∷◌, ◌++◌, ℕ, zero, suc, ◌+◌, Float, length, get_or}
 use Rattle.std.specs.Float.{binary64}
 use Rattle.std.specs.Float.Ieee.{of_bits}
 use Rattle.definition.specs.Memory.{fill_range}

@@ -25,7 +25,7 @@ use Rattle.scanning.specs.Inner.{is_before, WithEntry, Stopped}
 use Rattle.scanning.specs.declared.Passed.{Passed}
 use Rattle.scanning.specs.declared.Scanned.{Scanned}
 use Rattle.scanning.proofs.Heads.{variant}
-use Rattle.scanning.proofs.Rising.{Strict, Before, Swapped, before-true, by-rows, by-columns, Rising, rising-start, rising_limit, rising_blank, rising_entry}
+use Rattle.scanning.proofs.Rising.{Strict, Before, Swapped, before-true, by_rows, by-columns, Rising, rising-start, rising_limit, rising_blank, rising_entry}
 
 -- ---- one line
 
@@ -159,8 +159,8 @@ module _ (text : List ℕ) (from first n m at k : ℕ) (passed : Passed) (s : Sc
             low = omega (arith, s.low, reads.on);
             few = omega (arith, s.few, reads.on, w.entries);
             doubled = omega (arith, doubles-most passed.doubles passed.entries a b s.doubled, w.entries, w.doubles);
-            rows = λ h. rises Before by-rows passed.by_rows (is_before passed.row passed.column a b) q.row q.column s.rows
-                (before-true passed.row passed.column a b) w.row w.column (sym w.by-rows ∙ h);
+            rows = λ h. rises Before by_rows passed.by_rows (is_before passed.row passed.column a b) q.row q.column s.rows
+                (before-true passed.row passed.column a b) w.row w.column (sym w.by_rows ∙ h);
             columns = λ h. rises Swapped by-columns passed.by_columns (is_before passed.column passed.row b a) q.row q.column s.columns
                 (before-true passed.column passed.row b a) w.row w.column (sym w.by-columns ∙ h);
           }

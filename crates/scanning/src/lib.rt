@@ -1,4 +1,6 @@
 // The passes over a Matrix Market text that read it from front to end: up to the size line, and behind it.
+#![tactic(auto)]
+
 ghost use Rattle.std.specs.Prelude.{◌≡◌, ◌*◌, ◌≤◌, leb};
 ghost use Rattle.market.specs.Market.{inside, right_size};
 ghost use Rattle.scanning.specs.Said.{ReadsHead, Place, Scans};

@@ -1,8 +1,6 @@
-use mathlib.Core.Path.{◌≡◌, ap}
-use Prim.Native.Nat.{◌+◌, ◌≤◌}
+use mathlib.Core.Path.{ap}
 use native.Mathlib.Omega.{arith}
 use lib.ListN.{length}
-use Rattle.digits.specs.Digits.{decimal}
 use Rattle.digits.proofs.Decimals.{decimal-small, decimal_longer, decimal-most}
 use Rattle.digits.proofs.decimal_length.Goals as goal
 

@@ -1,10 +1,8 @@
 -- The invariant: the digits counted and those of `rest` make up the decimal.
-use mathlib.Core.Path.{◌≡◌, ap}
+use mathlib.Core.Path.{◌≡◌}
 use Prim.Native.Nat.{◌+◌, ◌≤◌}
-use native.Mathlib.Omega.{arith}
 use lib.ListN.{length}
 use Rattle.digits.specs.Digits.{decimal}
-use Rattle.digits.proofs.Decimals.{decimal-small, decimal_longer, decimal-most}
 use Rattle.digits.proofs.decimal_length.Given as goal
 
 abbrev pub invariant-loop-rest : goal.invariant-loop-rest

@@ -1,9 +1,6 @@
-use borrow.Author.Rules.{rules}
-use mathlib.Core.Path.{◌≡◌, refl, sym, ap, ◌∙◌}
-use Prim.Native.Nat.{◌+◌, ◌-◌}
+use mathlib.Core.Path.{sym, ap, ◌∙◌}
 use native.Mathlib.Omega.{arith}
 use lib.ListN.{length}
-use Rattle.digits.specs.ReadDecimal.{digits_at}
 use Rattle.digits.proofs.Runs.{at-digit, at_other, at_end}
 use Rattle.digits.proofs.digits_end.Goals as goal
 

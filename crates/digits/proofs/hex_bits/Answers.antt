@@ -1,11 +1,10 @@
-use borrow.Author.Rules.{rules}
 use mathlib.Core.Path.{◌≡◌, ap, ◌∙◌}
-use Prim.Native.Nat.{◌+◌, ◌-◌, ◌^◌, ◌≤◌, ◌<◌}
+use Prim.Native.Nat.{◌+◌}
 use native.Mathlib.Omega.{arith}
-use lib.ListN.{get_or, take, drop}
+use lib.ListN.{get_or}
 use mathlib.Core.Bool.{true}
 use Rattle.digits.specs.Digits.{every, is_hex, hex_from}
-use Rattle.digits.proofs.Scans.{hex_left, hex-start, hex-step-every, hex-step-value, hex-step-wrong, hex-room, hex_told, hex-not_told, hex_told_value, hex-wrong, hex-done}
+use Rattle.digits.proofs.Scans.{hex-start, hex-step-every, hex-step-value, hex-step-wrong, hex-room, hex_told, hex-not_told, hex_told_value, hex-wrong, hex-done}
 use Rattle.digits.proofs.Hexes.{room-more}
 use Rattle.digits.proofs.hex_bits.Goals as goal
 

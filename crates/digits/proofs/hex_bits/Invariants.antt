@@ -1,13 +1,9 @@
 -- The invariant: the digits still to come follow on `value`, and all before were hex.
-use borrow.Author.Rules.{rules}
-use mathlib.Core.Path.{◌≡◌, ap, ◌∙◌}
-use Prim.Native.Nat.{◌+◌, ◌-◌, ◌^◌, ◌≤◌, ◌<◌}
-use native.Mathlib.Omega.{arith}
-use lib.ListN.{get_or, take, drop}
-use mathlib.Core.Bool.{true}
+use mathlib.Core.Path.{◌≡◌}
+use Prim.Native.Nat.{◌-◌, ◌^◌, ◌≤◌, ◌<◌}
+use lib.ListN.{take, drop}
 use Rattle.digits.specs.Digits.{every, is_hex, hex_from}
-use Rattle.digits.proofs.Scans.{hex_left, hex-start, hex-step-every, hex-step-value, hex-step-wrong, hex-room, hex_told, hex-not_told, hex_told_value, hex-wrong, hex-done}
-use Rattle.digits.proofs.Hexes.{room-more}
+use Rattle.digits.proofs.Scans.{hex_left}
 use Rattle.digits.proofs.hex_bits.Given as goal
 
 abbrev pub invariant-loop-k : goal.invariant-loop-k

@@ -1,4 +1,3 @@
-use borrow.Author.Rules.{rules}
 use mathlib.Core.Path.{sym, ◌∙◌}
 use native.Mathlib.Omega.{arith}
 use Rattle.digits.proofs.Bytes.{digit_range, value_hit, value-miss, digit-hex, letter_hex, not-hex, value_of_digit, value_of_letter}

@@ -1,9 +1,5 @@
-use mathlib.Core.Path.{◌≡◌, refl, sym, ◌∙◌}
-use Prim.Native.Nat.{◌+◌, ◌-◌, ◌≤◌}
+use mathlib.Core.Path.{refl, sym, ◌∙◌}
 use native.Mathlib.Omega.{arith}
-use lib.ListN.{length}
-use Rattle.digits.specs.Digits.{value_from}
-use Rattle.digits.specs.ReadDecimal.{digits_at}
 use Rattle.digits.proofs.Scans.{step-digit, step_left, step_value, step-over, scan_done}
 use Rattle.digits.proofs.number_up_to.Goals as goal
 

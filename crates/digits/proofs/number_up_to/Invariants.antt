@@ -1,11 +1,9 @@
 -- The invariant: the digits still to come follow on `value`.
-use mathlib.Core.Path.{◌≡◌, refl, sym, ◌∙◌}
+use mathlib.Core.Path.{◌≡◌}
 use Prim.Native.Nat.{◌+◌, ◌-◌, ◌≤◌}
-use native.Mathlib.Omega.{arith}
 use lib.ListN.{length}
 use Rattle.digits.specs.Digits.{value_from}
 use Rattle.digits.specs.ReadDecimal.{digits_at}
-use Rattle.digits.proofs.Scans.{step-digit, step_left, step_value, step-over, scan_done}
 use Rattle.digits.proofs.number_up_to.Given as goal
 
 abbrev pub invariant-loop-i : goal.invariant-loop-i

@@ -2,7 +2,6 @@
 use mathlib.Core.Path.{◌∙◌}
 use native.Mathlib.Omega.{arith}
 use Rattle.digits.proofs.Scans.{run_inside, run_empty, run_leading, run-zero, run-number}
-use borrow.Author.Rules.{rules}
 use Rattle.digits.proofs.read_decimal.Goals as goal
 
 pub returns-then-end-from : goal.returns-then-end-from

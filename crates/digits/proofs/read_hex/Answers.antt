@@ -1,6 +1,5 @@
 use native.Mathlib.Omega.{arith}
 use Rattle.digits.proofs.Scans.{hex-short}
-use borrow.Author.Rules.{rules}
 use Rattle.digits.proofs.read_hex.Goals as goal
 
 pub returns-then-bytes-from : goal.returns-then-bytes-from

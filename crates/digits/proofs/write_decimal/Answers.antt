@@ -2,7 +2,6 @@ use native.Mathlib.Omega.{arith}
 use Rattle.digits.specs.Digits.{decimal}
 use Rattle.digits.proofs.Decimals.{decimal-least}
 use Rattle.digits.proofs.Putting.{writes_short, writes_to}
-use borrow.Author.Rules.{rules}
 use Rattle.digits.proofs.write_decimal.Goals as goal
 
 pub returns-then-out-at : goal.returns-then-out-at

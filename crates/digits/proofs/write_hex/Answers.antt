@@ -2,7 +2,6 @@ use native.Mathlib.Omega.{arith}
 use Rattle.digits.specs.Digits.{hex}
 use Rattle.digits.proofs.Hexes.{hex-length}
 use Rattle.digits.proofs.Putting.{writes_short, writes_to}
-use borrow.Author.Rules.{rules}
 use Rattle.digits.proofs.write_hex.Goals as goal
 
 pub returns-then-out-at : goal.returns-then-out-at
