@@ -2,6 +2,8 @@
 // chunk's rows as a part that begins at its first row, with that row's number where the work needs it.
 // Each chunk function lends that part on and says what the whole block holds then; n is part of what it
 // says, since where a block keeps a number may hang on it.
+#![tactic(auto)]
+
 ghost use Rattle.std.specs.Prelude.{◌≡◌, ℕ, ◌+◌, ◌≤◌, ◌<◌, length};
 ghost use Rattle.std.specs.Float.{nan};
 ghost use Rattle.definition.specs.Arith.{ieee64};
