@@ -113,7 +113,7 @@ machine_emulator() {
   local guide emulator
   command -v rt >/dev/null || { machine_fail 'rt is not in PATH, and the emulator lies beside its compiler'; return 1; }
   guide=$(rt doc) || { machine_fail 'rt does not say where its guide is, and the emulator lies beside it'; return 1; }
-  emulator=${guide%/docs/*}/on/$(uname -m)/toolchain/bin/qemu-x86_64
+  emulator=${guide%/*}/on/$(uname -m)/toolchain/bin/qemu-x86_64
   [ -x "$emulator" ] || { machine_fail "rt's kit has no emulator of x86-64 for this machine, $(uname -m)"; return 1; }
   echo "$emulator"
 }

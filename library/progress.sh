@@ -2,10 +2,13 @@
 # library/progress.sh: proves with rt, and says on standard error what is going on and how far it is; for bash, read in by other scripts
 # (source) after machine.sh.
 #
-#   progress_prove CRATE LOG COMMAND   runs `rt COMMAND CRATE` from the repository's root (COMMAND: check or staticlib), what it prints into
-#                                      LOG. Where something is not proved LOG's end goes to standard error, with a line, and it fails
+#   progress_prove CRATE LOG COMMAND   runs `rt COMMAND` in crates/CRATE (COMMAND: check, lib or run, with no input), what it prints into LOG.
+#                                      Where something is not proved LOG's end goes to standard error, with a line, and it fails
+#   progress_archive CRATE LOG         the same by `rt lib` of a static library, whose archive it copies to target/staticlib: libCRATE.a, where
+#                                      a crate NAME_c, which has the exports of crate NAME, gives libNAME.a
 
-# Prints how many crates that takes: this one and all that it rests on in crates.txt, where the kit's own libraries have no line.
+# Prints how many crates that takes: this one and all that it rests on in crates.txt, where the kit's own libraries have no line. A static
+# library's name has the word staticlib behind it.
 progress_count() {
   awk -v wanted="$1" '
     function visit(name,    parts, many, i) {
@@ -15,7 +18,7 @@ progress_count() {
       count++
     }
     { sub(/#.*/, "") }
-    split($0, line, ":") == 2 { gsub(/[ \t]/, "", line[1]); needs[line[1]] = line[2] }
+    split($0, line, ":") == 2 { sub(/ .*/, "", line[1]); gsub(/[ \t]/, "", line[1]); needs[line[1]] = line[2] }
     END { visit(wanted); print count + 0 }' "$machine_root/crates.txt"
 }
 
@@ -27,8 +30,8 @@ progress_show() {
 
 progress_end_line() { [ ! -t 2 ] || machine_print $'\n'; }
 
-# Copies what rt prints from standard input to the log, counts the crates, and shows the count when one more was proved. Unchanged crates come
-# many at a time, so that they are shown together, once rt is quiet for a second.
+# Copies what rt prints from standard input to the log, counts the crates, and shows the count when one more was proved. rt says nothing of
+# crates that have not changed.
 progress_follow() {
   local of=$1 log=$2 proved=0 line part='' ended
   progress_shown=0
@@ -38,8 +41,7 @@ progress_follow() {
     if [ "$ended" -eq 0 ]; then
       line=$part$line part=''
       printf '%s\n' "$line" 2>/dev/null || : # a full disk is no reason to stop: rt itself will say so
-      case $line in 'rt: '*' proved ('*) proved=$((proved + 1)) ;; *) continue ;; esac
-      case $line in *' proved (unchanged '*) continue ;; esac
+      case $line in 'logic=proved '*) proved=$((proved + 1)) ;; *) continue ;; esac
     elif [ "$ended" -gt 128 ]; then
       part+=$line # the second is over; a line may have begun
     else
@@ -66,7 +68,7 @@ progress_prove() {
   { : >"$log"; } 2>/dev/null || { machine_fail "${log#"$machine_root"/} cannot be written"; return 1; }
   of=$(progress_count "$crate")
   machine_say "proving crates/$crate with all that it rests on, $of crates: minutes the first time, less where little has changed"
-  exec {from_rt}< <(cd "$machine_root" && exec setsid rt "$command" "$crate" </dev/null 2>&1)
+  exec {from_rt}< <(cd "$machine_root/crates/$crate" && exec setsid rt "$command" </dev/null 2>&1)
   rt=$!
   # shellcheck disable=SC2064 # the number is known now
   for signal in INT TERM HUP; do trap "progress_stop $signal $rt" "$signal"; done
@@ -74,8 +76,14 @@ progress_prove() {
   wait "$rt" || status=$?
   trap - INT TERM HUP
   exec {from_rt}<&-
-  # rt staticlib has no such line for the crate that it was asked for.
+  # rt has no line for a crate that has not changed.
   [ "$status" -ne 0 ] || [ "$progress_shown" -eq "$of" ] || progress_show "$of" "$of"
   progress_end_line
   [ "$status" -eq 0 ] || { tail -n 20 "$log" >&2; machine_fail "crates/$crate is not proved; ${log#"$machine_root"/} has it whole"; }
+}
+
+progress_archive() {
+  local crate=$1 log=$2 to=$machine_root/target/staticlib
+  progress_prove "$crate" "$log" lib || return 1
+  mkdir -p "$to" && cp "$machine_root/crates/$crate/out/lib$crate.a" "$to/lib${crate%_c}.a"
 }

@@ -1,4 +1,4 @@
-//! Where `rt staticlib` writes the archives of single crates, and `library/build` the library. Each binary names its own.
+//! Where `progress_archive` of library/progress.sh puts the archives of single crates, and `library/build` the library. Each binary names its own.
 fn main() {
     let here = std::env::var("CARGO_MANIFEST_DIR").expect("cargo sets this");
     for folder in ["staticlib", "library"] {

@@ -7,7 +7,7 @@
 ghost use Rattle.std.specs.Prelude.{◌≡◌, ◌+◌, ◌≤◌, length};
 
 use digits::Written;
-use libc::STDIN_FILENO;
+use std::io;
 use tally::Tally;
 
 mod again; // again.rt: run files and answers written again
@@ -145,12 +145,12 @@ fn room() -> [u8; 2100000]
     [0; 2100000]
 }
 
-fn main() {
+fn main(rt: HostRuntime) -> io::Result<()> {
     let mut all = room();
-    let count = io::read_full(STDIN_FILENO, &mut all);
+    let count = text::read_full(&mut rt.stdin(), &mut all);
     let mut t = [0u64; 16];
     try_cases(&all[..count], &mut t);
     refusals::of_files(&mut t);
     refusals::of_answers(&mut t);
-    tally::print_all(&t);
+    tally::print_all(&rt, &t)
 }

@@ -1,5 +1,5 @@
 // What is counted. A kind's place has how many were tried, and the place behind it how many of them were right.
-use libc::STDOUT_FILENO;
+use std::io;
 
 pub type Tally = [u64; 16];
 
@@ -38,40 +38,49 @@ pub fn note(tally: &mut Tally, kind: usize, is_right: bool) {
 
 // ---- printing
 
-fn print_number(name: &[u8], tally: &Tally, i: usize) {
-    io::write_all(STDOUT_FILENO, name);
+fn print_number(rt: &impl Print, name: &[u8], tally: &Tally, i: usize) -> io::Result<()> {
+    rt.write_all(name)?;
     if i < 16 {
-        io::print_decimal(STDOUT_FILENO, tally[i]);
+        rt.print(tally[i])?;
     }
+    Ok(())
 }
 
-fn print_kind(name: &[u8], right: &[u8], tally: &Tally, kind: usize) {
-    print_number(name, tally, kind);
-    print_number(right, tally, std::num::wrapping_add_usize(kind, 1));
+fn print_kind(
+    rt: &impl Print,
+    name: &[u8],
+    right: &[u8],
+    tally: &Tally,
+    kind: usize,
+) -> io::Result<()> {
+    print_number(rt, name, tally, kind)?;
+    print_number(rt, right, tally, std::num::wrapping_add_usize(kind, 1))
 }
 
 // The line of a writer, whose three kinds stand one behind the other.
-fn print_writer(name: &[u8], tally: &Tally, first: usize) {
-    print_kind(name, b" same=", tally, first);
+fn print_writer(rt: &impl Print, name: &[u8], tally: &Tally, first: usize) -> io::Result<()> {
+    print_kind(rt, name, b" same=", tally, first)?;
     print_kind(
+        rt,
         b" refused=",
         b" right=",
         tally,
         std::num::wrapping_add_usize(first, 2),
-    );
+    )?;
     print_kind(
+        rt,
         b" rooms=",
         b" right=",
         tally,
         std::num::wrapping_add_usize(first, 4),
-    );
-    io::write_all(STDOUT_FILENO, b"\n");
+    )?;
+    rt.write_all(b"\n")
 }
 
-pub fn print_all(tally: &Tally) {
-    print_kind(b"promised=", b" same=", tally, PROMISED);
-    print_kind(b" beyond=", b" same=", tally, BEYOND);
-    io::write_all(STDOUT_FILENO, b"\n");
-    print_writer(b"written=", tally, FILES);
-    print_writer(b"printed=", tally, ANSWERS);
+pub fn print_all(rt: &impl Print, tally: &Tally) -> io::Result<()> {
+    print_kind(rt, b"promised=", b" same=", tally, PROMISED)?;
+    print_kind(rt, b" beyond=", b" same=", tally, BEYOND)?;
+    rt.write_all(b"\n")?;
+    print_writer(rt, b"written=", tally, FILES)?;
+    print_writer(rt, b"printed=", tally, ANSWERS)
 }

@@ -2,6 +2,8 @@
 // chunk's rows as a part that begins at its first row, with that row's number where the work needs it.
 // Each chunk function lends that part on and says what the whole block holds then; n is part of what it
 // says, since where a block keeps a number may hang on it.
+#![tactic(auto)]
+
 ghost use Rattle.std.specs.Prelude.{◌≡◌, ℕ, ◌+◌, ◌≤◌, ◌<◌, length};
 ghost use Rattle.std.specs.Float.{nan};
 ghost use Rattle.definition.specs.Arith.{ieee64};
@@ -9,7 +11,6 @@ ghost use Rattle.definition.specs.Memory.{place, vector_of, block_of, number_at,
 ghost use Rattle.definition.specs.OrthonormalizeBlock.{with_column, delta, subtracted, kept, refreshed, zeroed, fresh_index, written};
 ghost use Rattle.columns.specs.Rows.{Part, Within, Fresh, shifted};
 
-pub mod exports;
 pub mod marks;
 pub mod output;
 

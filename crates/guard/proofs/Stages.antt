@@ -5,7 +5,6 @@ use mathlib.Core.Bool.{Bool, true, false, not, ◌&&◌, ◌||◌}
 use mathlib.Core.List.{List}
 use Prim.Native.Nat.{ℕ}
 use borrow.Author.Tests.{ne_eqb}
-use Rattle.definition.specs.Arith.{ieee64}
 use Rattle.machine.specs.State.{Asked}
 use Rattle.machine.specs.Ranges.{starts_sound, columns_sound}
 use Rattle.guard.specs.Rows.{rows_test}

@@ -14,7 +14,9 @@ mod report; // report.rt: what is counted and printed
 mod tend; // tend.rt: what is done to all lent lists
 mod whole; // whole.rt: the runs, turn by turn
 
-fn main() {
+use std::io;
+
+fn main(rt: HostRuntime) -> io::Result<()> {
     let mut starts = [0u64; 9001];
     let mut columns = [0u32; 72000];
     let mut values = [0.0; 72000];
@@ -69,8 +71,8 @@ fn main() {
             &mut output,
             &mut ritz_record,
         );
-        book = whole::after(book, entries, found, last);
+        book = whole::after(&rt, book, entries, found, last)?;
         left = whole::fewer(left, book.number);
     }
-    report::print_all(book.tally);
+    report::print_all(&rt, book.tally)
 }

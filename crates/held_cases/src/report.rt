@@ -4,7 +4,7 @@ use crate::plan;
 use crate::plan::Refused;
 use crate::whole::End;
 use input::SpectralParams;
-use libc::STDOUT_FILENO;
+use std::io;
 
 // The upward run of the case at hand, the differences in it so far, its refused calls; and over all cases the runs, the differences,
 // the accepted calls, the refused ones by number, and the looks at the Ritz record with those that were right.
@@ -114,77 +114,75 @@ fn differences_of(case: Case, upward: End, end: End) -> u64 {
 
 // ---- printing
 
-fn print_number(name: &[u8], x: u64) {
-    io::write_all(STDOUT_FILENO, name);
-    io::print_decimal(STDOUT_FILENO, x);
+fn print_number(rt: &impl Print, name: &[u8], x: u64) -> io::Result<()> {
+    rt.write_all(name)?;
+    print!(rt; "{x}")
 }
 
-fn print_bits(name: &[u8], x: u64) {
-    io::write_all(STDOUT_FILENO, name);
-    io::print_hex(STDOUT_FILENO, x, 16);
+fn print_bits(rt: &impl Print, name: &[u8], x: u64) -> io::Result<()> {
+    rt.write_all(name)?;
+    print!(rt; "{x:016x}")
 }
 
-fn print_asked(case: Case) {
-    print_number(b" ", case.dims);
-    print_number(b" ", case.rounds);
-    print_number(b" ", case.degree);
-    io::write_all(STDOUT_FILENO, b":");
+fn print_asked(rt: &impl Print, case: Case) -> io::Result<()> {
+    print_number(rt, b" ", case.dims)?;
+    print_number(rt, b" ", case.rounds)?;
+    print_number(rt, b" ", case.degree)?;
+    rt.write_all(b":")
 }
 
-fn print_case(case: Case) {
+fn print_case(rt: &impl Print, case: Case) -> io::Result<()> {
     if case.rows == 1 {
-        io::write_all(STDOUT_FILENO, b"one row, no entries:");
-        return;
+        return rt.write_all(b"one row, no entries:");
     }
-    print_number(b"big ", case.rows as u64);
-    print_number(b" ", case.number);
-    print_asked(case);
+    print_number(rt, b"big ", case.rows as u64)?;
+    print_number(rt, b" ", case.number)?;
+    print_asked(rt, case)
 }
 
-fn print_same(differences: u64) {
+fn print_same(rt: &impl Print, differences: u64) -> io::Result<()> {
     if differences == 0 {
-        io::write_all(STDOUT_FILENO, b" same=yes\n");
-        return;
+        return rt.write_all(b" same=yes\n");
     }
-    print_number(b" same=no differences=", differences);
-    io::write_all(STDOUT_FILENO, b"\n");
+    print_number(rt, b" same=no differences=", differences)?;
+    rt.write_all(b"\n")
 }
 
-fn print_counts(upward: End) {
-    print_number(b" passes=", upward.passes);
-    print_number(b" refreshed=", upward.refreshed);
-    print_number(b" zeroed=", upward.zeroed);
-    print_number(b" isolated=", upward.isolated);
+fn print_counts(rt: &impl Print, upward: End) -> io::Result<()> {
+    print_number(rt, b" passes=", upward.passes)?;
+    print_number(rt, b" refreshed=", upward.refreshed)?;
+    print_number(rt, b" zeroed=", upward.zeroed)?;
+    print_number(rt, b" isolated=", upward.isolated)
 }
 
-fn print_line(case: Case, t: Tally) {
+fn print_line(rt: &impl Print, case: Case, t: Tally) -> io::Result<()> {
     let upward = t.upward;
-    print_case(case);
-    print_number(b" orders=", plan::ORDERS as u64);
-    print_bits(b" digest=", upward.digest);
-    print_counts(upward);
-    print_number(b" calls=", upward.accepted);
-    print_number(b" refused=", t.refused_here);
-    print_same(t.differences_here);
+    print_case(rt, case)?;
+    print_number(rt, b" orders=", plan::ORDERS as u64)?;
+    print_bits(rt, b" digest=", upward.digest)?;
+    print_counts(rt, upward)?;
+    print_number(rt, b" calls=", upward.accepted)?;
+    print_number(rt, b" refused=", t.refused_here)?;
+    print_same(rt, t.differences_here)
 }
 
-fn print_refused(refused: Refused) {
-    print_number(b" refused by 12=", refused.by12);
-    print_number(b" 13=", refused.by13);
-    print_number(b" 14=", refused.by14);
-    print_number(b" 15=", refused.by15);
-    print_number(b" 16=", refused.by16);
+fn print_refused(rt: &impl Print, refused: Refused) -> io::Result<()> {
+    print_number(rt, b" refused by 12=", refused.by12)?;
+    print_number(rt, b" 13=", refused.by13)?;
+    print_number(rt, b" 14=", refused.by14)?;
+    print_number(rt, b" 15=", refused.by15)?;
+    print_number(rt, b" 16=", refused.by16)
 }
 
-pub fn print_all(t: Tally) {
+pub fn print_all(rt: &impl Print, t: Tally) -> io::Result<()> {
     let refused = t.refused;
-    print_number(b"runs=", t.runs);
-    print_number(b" calls=", t.accepted);
-    print_refused(refused);
-    print_number(b" looks=", t.looks);
-    print_number(b" right=", t.right);
-    print_number(b" differences=", t.differences);
-    io::write_all(STDOUT_FILENO, b"\n");
+    print_number(rt, b"runs=", t.runs)?;
+    print_number(rt, b" calls=", t.accepted)?;
+    print_refused(rt, refused)?;
+    print_number(rt, b" looks=", t.looks)?;
+    print_number(rt, b" right=", t.right)?;
+    print_number(rt, b" differences=", t.differences)?;
+    rt.write_all(b"\n")
 }
 
 // ---- a run more
@@ -218,10 +216,10 @@ fn with_run(t: Tally, case: Case, end: End) -> Tally {
     u
 }
 
-pub fn counted(t: Tally, case: Case, order: usize, end: End) -> Tally {
+pub fn counted(rt: &impl Print, t: Tally, case: Case, order: usize, end: End) -> io::Result<Tally> {
     let u = with_run(upward_of(t, order, end), case, end);
     if order == plan::ORDERS - 1 {
-        print_line(case, u);
+        print_line(rt, case, u)?;
     }
-    u
+    Ok(u)
 }

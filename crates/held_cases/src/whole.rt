@@ -12,6 +12,7 @@ use crate::tend::{Found, Tend};
 use crate::{calls, cases, digest, lists, plan, record, report, tend};
 use input::Verdict;
 use state::{Answer, Asked, Counts, Progress, State};
+use std::io;
 
 // What a run comes to: the oracle's digest of the seed, a digest of the state and all lists, and what was counted: calls, and looks at the
 // Ritz record with those that were right.
@@ -500,19 +501,20 @@ fn looks_after(book: Book, found: Found) -> Looks {
     record::looked(looks, look)
 }
 
-fn tally_after(book: Book, found: Found) -> Tally {
+fn tally_after(rt: &impl Print, book: Book, found: Found) -> io::Result<Tally> {
     let tally = book.tally;
     let run = book.run;
     let looks = book.looks;
     if book.phase == END {
         return report::counted(
+            rt,
             tally,
             case_of(book),
             order_of(book),
             end_of(run, looks, found),
         );
     }
-    tally
+    Ok(tally)
 }
 
 fn number_after(phase: u64, number: usize) -> usize {
@@ -522,12 +524,18 @@ fn number_after(phase: u64, number: usize) -> usize {
     number
 }
 
-pub fn after(book: Book, entries: usize, found: Found, last: Answer) -> Book {
+pub fn after(
+    rt: &impl Print,
+    book: Book,
+    entries: usize,
+    found: Found,
+    last: Answer,
+) -> io::Result<Book> {
     let run = run_after(book, found, last);
-    let tally = tally_after(book, found);
+    let tally = tally_after(rt, book, found)?;
     let steps = steps_after(book.phase, book.steps);
     let looks = looks_after(book, found);
-    Book {
+    Ok(Book {
         tally,
         number: number_after(book.phase, book.number),
         phase: phase_after(book, run, steps),
@@ -536,7 +544,7 @@ pub fn after(book: Book, entries: usize, found: Found, last: Answer) -> Book {
         before: found.lists,
         looks,
         run,
-    }
+    })
 }
 
 // Fewer turns are left; none where the last run has ended.

@@ -8,7 +8,6 @@ ghost use Rattle.definition.specs.Refusals.{passes, test_rounds, test_degree, te
 ghost use Rattle.input.specs.Said.{verdict_of, params_of, Answered};
 
 mod chunks;
-mod exports;
 mod request;
 mod scan;
 

@@ -1,10 +1,13 @@
 // Runs stored matrices through `ritz::jacobi_eigen` and compares the answers with the stored ones bit for bit, a NaN with any NaN.
 // Standard input, for each matrix: k, then the k * k numbers of the matrix, of the answer and of the vectors, each as 16 hex digits and
 // a newline. Anything but a k from 9 to 15 ends it.
+#![tactic(auto)]
+
 ghost use Rattle.std.specs.Prelude.{◌+◌, ◌≤◌};
 ghost use Rattle.definition.specs.Requirements.{Width};
 
-use libc::{STDIN_FILENO, STDOUT_FILENO};
+use std::io;
+use std::io::Read;
 
 // The value of a hex digit, and 0 of any other byte.
 fn digit(c: u8) -> u64 {
@@ -26,10 +29,9 @@ fn number_of(line: &[u8; 17]) -> u64 {
 }
 
 // The next number of the input, and 0 behind its end.
-fn next_number() -> u64 {
+fn next_number(input: &mut impl Read) -> u64 {
     let mut line = [0u8; 17];
-    let got = io::read_full(STDIN_FILENO, &mut line);
-    if got < 17 {
+    if input.read_exact(&mut line).is_err() {
         return 0;
     }
     number_of(&line)
@@ -54,26 +56,26 @@ fn is_same(x: f64, bits: u64) -> bool {
     f64::to_bits(x) == bits
 }
 
-fn read_matrix(count: usize) -> [f64; 225]
+fn read_matrix(input: &mut impl Read, count: usize) -> [f64; 225]
     requires { count ≤ 225 }
 {
     let mut m = [0.0; 225];
     let mut i = 0;
     while i < count {
-        m[i] = value_of(next_number());
+        m[i] = value_of(next_number(input));
         i += 1;
     }
     m
 }
 
 // Whether the next numbers of the input are those of m. All of them are read.
-fn agrees(m: &[f64; 225], count: usize) -> bool
+fn agrees(input: &mut impl Read, m: &[f64; 225], count: usize) -> bool
     requires { count ≤ 225 }
 {
     let mut different: u64 = 0;
     let mut i = 0;
     while i < count {
-        if is_same(m[i], next_number()) {
+        if is_same(m[i], next_number(input)) {
             i += 1;
         } else {
             different = 1;
@@ -84,14 +86,14 @@ fn agrees(m: &[f64; 225], count: usize) -> bool
 }
 
 // Whether the next matrix has its stored answer.
-fn is_case_same(k: usize) -> bool
+fn is_case_same(input: &mut impl Read, k: usize) -> bool
     requires { Width k }
 {
     let count = k * k;
-    let m = read_matrix(count);
+    let m = read_matrix(input, count);
     let answer = ritz::jacobi_eigen(k, m);
-    let matrix = agrees(&answer.matrix, count);
-    let vectors = agrees(&answer.vectors, count);
+    let matrix = agrees(input, &answer.matrix, count);
+    let vectors = agrees(input, &answer.vectors, count);
     matrix && vectors
 }
 
@@ -120,31 +122,27 @@ fn counted(t: Tally, is_same: bool) -> Tally
 }
 
 // At most 4,096 matrices.
-fn count_cases() -> Tally {
+fn count_cases(input: &mut impl Read) -> Tally {
     let mut t = Tally {
         matrices: 0,
         same: 0,
     };
     let mut turns: u64 = 0;
     while turns < 4096 {
-        let k = next_number();
+        let k = next_number(input);
         if k < 9 {
             return t;
         }
         if 15 < k {
             return t;
         }
-        t = counted(t, is_case_same(k as usize));
+        t = counted(t, is_case_same(input, k as usize));
         turns += 1;
     }
     t
 }
 
-fn main() {
-    let t = count_cases();
-    io::write_all(STDOUT_FILENO, b"matrices=");
-    io::print_decimal(STDOUT_FILENO, t.matrices);
-    io::write_all(STDOUT_FILENO, b" same=");
-    io::print_decimal(STDOUT_FILENO, t.same);
-    io::write_all(STDOUT_FILENO, b"\n");
+fn main(rt: HostRuntime) -> io::Result<()> {
+    let t = count_cases(&mut rt.stdin());
+    println!(rt; "matrices={} same={}", t.matrices, t.same)
 }

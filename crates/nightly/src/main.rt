@@ -3,11 +3,11 @@
 ghost use Rattle.std.specs.Prelude.{◌≡◌, ◌≤◌, length};
 
 use input::SpectralParams;
-use libc::{STDIN_FILENO, STDOUT_FILENO};
 use reading::RunFile;
+use std::io;
 
 // Prints the map of the run file's graph.
-fn print_map(file: RunFile)
+fn print_map(rt: &impl Print, file: RunFile) -> io::Result<()>
     requires start_count_bound { (file.start_count ≤ 65) × (file.column_count ≤ 1024) × (file.value_count ≤ 1024) }
     requires starts_len { (length file.starts ≡ 65) × (length file.columns ≡ 1024) × (length file.values ≡ 1024) }
 {
@@ -28,17 +28,17 @@ fn print_map(file: RunFile)
         &mut out,
     );
     if end <= 8192 {
-        io::write_all(STDOUT_FILENO, &out[..end]);
+        rt.write_all(&out[..end])?;
     }
+    Ok(())
 }
 
-fn main() {
+fn main(rt: HostRuntime) -> io::Result<()> {
     let mut buf = [0u8; 32769];
-    let count = io::read_full(STDIN_FILENO, &mut buf);
+    let count = text::read_full(&mut rt.stdin(), &mut buf);
     let file = reading::read_run(&buf[..count]);
     if file.is_right {
-        print_map(file);
-        return;
+        return print_map(&rt, file);
     }
-    io::write_all(STDOUT_FILENO, b"not a run file\n");
+    rt.write_all(b"not a run file\n")
 }

@@ -1,7 +1,6 @@
 // The numbers of the seed. Each public function equals its definition on every input.
 #![tactic(auto)]
 
-mod exports; // the functions that C and Rust call by name
 mod pattern; // the root on bit patterns
 mod whole; // the root of whole numbers
 

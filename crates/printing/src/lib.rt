@@ -2,6 +2,8 @@
 //
 // A function here writes from a place on, where it is told that there is room, and answers the place behind what it wrote. Those of
 // `room` and `write_answer` ask for nothing: they answer a verdict and a length.
+#![tactic(auto)]
+
 ghost use Rattle.std.specs.Prelude.{◌≡◌, ◌++◌, ◌*◌, ◌+◌, ◌≤◌, length, get_or};
 ghost use Rattle.std.specs.Float.{binary64, nan};
 ghost use Rattle.std.specs.Float.Ieee.{to_bits};

@@ -60,6 +60,11 @@ not_taken (found vs n) out answer after s e =
     let z : ◌≡◌ {A = ℕ} 0 1 = cc in absurd (omega arith)
 not_taken none out answer after s e = refl
 
+-- what is no `Found` is `Wrong`
+pub not_found : (answer : ListRead) → ((count next : ℕ) → answer ≡ L.Found count next → ⊥) → answer ≡ L.Wrong
+not_found (L.Found count next) h = absurd (h count next refl)
+not_found L.Wrong h = refl
+
 -- ---- a copy, number by number
 pub copy_more : (source copy : List ℕ) (i : ℕ) → i < length source → i < length copy → take i copy ≡ take i source
     → take (i + 1) (set copy i (get_or source i 0)) ≡ take (i + 1) source

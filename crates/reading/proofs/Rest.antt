@@ -8,12 +8,18 @@ use borrow.Author.Tests.{lt-ltb, le-ltb}
 use lib.Dec.{eqb, ltb}
 use lib.ListN.{length, get_or}
 use Rattle.digits.specs.Digits.{every}
+use Rattle.reading.specs.declared.OneRead.{OneRead}
 use Rattle.reading.specs.declared.OneRead.TheVariants as O
 use Rattle.reading.specs.Grammar.{bytes_most, RunNumbers, numbers_at, line_at, line_count, largest64, rounds_most, d_line, rounds_line, degree_line, seed_std_line, starts_line, columns_line, values_line}
 use Rattle.reading.specs.ReadLine.{Found, found, none, line_from}
 use Rattle.reading.specs.ReadRun.{Read, run, fault, on_line, one, read_lists, read_lines, read_run}
 use Rattle.reading.specs.Parts.{line_of, one_of, read_entries}
 use Rattle.reading.proofs.Lines.{Fair, line-sound}
+
+-- what is no `Found` is `Wrong`
+pub one_not_found : (answer : OneRead) → ((number next : ℕ) → answer ≡ O.Found number next → ⊥) → answer ≡ O.Wrong
+one_not_found (O.Found number next) h = absurd (h number next refl)
+one_not_found O.Wrong h = refl
 
 -- ---- line by line
 pub each_line : (P : ℕ → Type 0) → P 0 → P 1 → P 2 → P 3 → P 4 → P 5 → P 6 → (i : ℕ) → i < line_count → P i

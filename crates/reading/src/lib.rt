@@ -1,4 +1,6 @@
 // The reader of run files: which bytes are which run file, and where they are not, the first line at fault.
+#![tactic(auto)]
+
 ghost use Rattle.std.specs.Prelude.{◌≡◌, List, [], ℕ, ◌+◌, ◌≤◌, length, get_or};
 ghost use Rattle.std.specs.Float.Ieee.{of_bits};
 ghost use Rattle.std.specs.Float.{binary64};
@@ -8,8 +10,6 @@ ghost use Rattle.reading.specs.ReadRun.{read_run, read_lists, record_of, floats_
 ghost use Rattle.reading.specs.Parts.{line_of, Reads, one_of, ReadsHead, read_entries, Inside};
 
 use digits::{Decimal, Hex};
-
-mod exports; // the function that C and Rust call by name
 
 const BYTES_MOST: usize = 32768;
 

@@ -1,5 +1,7 @@
 // What a held run keeps between calls, as records by value: numbers and arrays only, so that a host may store them and go on from them.
 // docs/STATE.md has each field with its meaning, its range and who sets it.
+#![tactic(auto)]
+
 ghost use Rattle.std.specs.Prelude.{◌≡◌, ◌||◌, eqb};
 ghost use Rattle.machine.specs.Work.{free_block};
 

@@ -2,13 +2,12 @@
 use mathlib.Core.Path.{◌≡◌, sym, ap, ◌∙◌}
 use mathlib.Core.List.{List}
 use Prim.Native.Nat.{ℕ, ◌+◌, ◌-◌, ◌*◌, ◌/◌, ◌%◌, ◌≤◌, ◌<◌}
-use native.Mathlib.Nat.{le_refl, mul-le-mul_right}
+use native.Mathlib.Nat.{le_refl}
 use native.Mathlib.Omega.{arith}
 use lib.ListN.{length, get_or, set, replicate, get_or-replicate, length-replicate}
 use Rattle.definition.specs.Arith.{Arith}
 use Rattle.definition.specs.ChunkedColumnReduce.{sum_up}
 use Rattle.definition.specs.Memory.{fill_range, row_at, column_at}
-use Rattle.definition.specs.Requirements.{Span}
 use Rattle.definition.proofs.Places.{row_of, column_of}
 use Rattle.definition.proofs.Sums.{sum-none, sum_more}
 use Rattle.definition.proofs.Fill.{fill_empty, fill_same, fill_again, fill_next, fill_cong, fill_in, fill_step, fill_ahead}

@@ -2,6 +2,8 @@
 //
 // A partial is summed in an array of its own and copied out at the end: the compiler can't know that a lent list is not the block that is
 // read, and would store every sum at every row.
+#![tactic(auto)]
+
 ghost use Rattle.std.specs.Prelude.{◌≡◌, ◌+◌, ◌*◌, ◌≤◌, ◌<◌, length, replicate};
 ghost use Rattle.definition.specs.Arith.{ieee64};
 ghost use Rattle.definition.specs.ChunkedColumnReduce.{sum_up, square};
@@ -14,7 +16,6 @@ ghost use Rattle.sums.specs.Accumulators.{with_partial, product_term};
 mod row; // row.rt: what one row adds to the sums, or to the count of isolated rows
 mod rows; // rows.rt: the sums over the rows from `first` up to `end`
 mod put; // put.rt: the sums, copied to their place among the partials
-pub mod exports; // exports.rt: for programs in other languages
 
 // The squares of column c: the norm before and the norm after.
 pub fn norm_partial(

@@ -10,8 +10,10 @@ use reading::RunFile;
 use state::Counts;
 
 mod exports; // for C
+mod full; // reading until a list of bytes is full
 mod graph; // the answer for a graph
 
+pub use full::read_full;
 pub use graph::answer_graph;
 
 // So many bytes hold every answer.

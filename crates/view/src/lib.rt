@@ -1,9 +1,10 @@
-// A row's entries, read through a small view that holds its columns and their weights. The borrow checker covers no function
-// over a struct that holds slices, so each is proved by hand, and they are few: the view is made once a row, and whoever walks
-// the entries takes it apart and works on plain slices.
+// A row's entries, read through a small view that holds its columns and their weights. The view is made once a row, and whoever
+// walks the entries takes it apart and works on plain slices.
+#![tactic(auto)]
+
 ghost use Rattle.std.specs.Prelude.{◌≡◌, ◌-◌, ◌≤◌, ◌<◌, length, get_or, take, drop};
 
-#[derive(Drop)]
+#[derive(Clone, Copy)]
 pub struct RowView<'a, 'b> {
     pub columns: &'a [u32],
     pub weights: &'b [f64],

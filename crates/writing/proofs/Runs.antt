@@ -1,6 +1,6 @@
 -- The seven lines as four and three, and four texts one behind another. Assumes nothing.
-use mathlib.Core.Path.{◌≡◌, refl, sym, ap, ap₂, ◌∙◌}
-use mathlib.Core.Bool.{true, false}
+use mathlib.Core.Path.{◌≡◌, sym, ap, ◌∙◌}
+use mathlib.Core.Bool.{false}
 use mathlib.Core.List.{List, [], ◌∷◌, ◌++◌, append_assoc}
 use Prim.Native.Nat.{ℕ, ◌+◌, ◌≤◌}
 use native.Mathlib.Omega.{arith}
@@ -10,7 +10,7 @@ use Rattle.definition.specs.Numbers.{Params}
 use Rattle.digits.proofs.Lists.{put-length}
 use Rattle.printing.proofs.Putting.{Put, put_then}
 use Rattle.reading.specs.Grammar.{Line, d_line, rounds_line, degree_line, seed_std_line, starts_line, columns_line, values_line, joined, line_text, text_up_to}
-use Rattle.files.specs.RunText.{bits_of, numbers_of, run_text}
+use Rattle.files.specs.RunText.{bits_of, run_text}
 use Rattle.writing.specs.Putting.{line_named, head_text}
 use Rattle.writing.proofs.Lines.{line_alike}
 

@@ -1,4 +1,6 @@
 // The writer of run files: the seven lines of a graph with its parameters, into text that a host lends.
+#![tactic(auto)]
+
 ghost use Rattle.std.specs.Prelude.{◌≡◌, [], ◌∷◌, ◌≤◌, length, take};
 ghost use Rattle.input.specs.Said.{verdict_of, params_of};
 ghost use Rattle.printing.specs.Room.{Leaves};

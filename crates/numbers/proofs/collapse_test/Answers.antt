@@ -1,4 +1,4 @@
--- : each arm returns what the tests pick.
+-- Each arm returns what the tests pick.
 use lib.Ieee.{of_bits}
 use Rattle.definition.specs.OrthonormalizeBlock.{ending}
 use Rattle.numbers.proofs.collapse_test.Goals as goal

@@ -1,5 +1,5 @@
--- : each arm returns what the test picks.
-use Rattle.std.proofs.Common.{sym, ◌∙◌, rules}
+-- Each arm returns what the test picks.
+use Rattle.std.proofs.Common.{sym, ◌∙◌}
 use lib.Ieee.{of_bits}
 use Rattle.definition.specs.SpectralEmbedding.{inverse_of}
 use Rattle.numbers.proofs.inverse_of.Goals as goal

@@ -1,4 +1,4 @@
--- : it is the definition, opened.
+-- It is the definition, opened.
 use Rattle.std.proofs.Common.{refl}
 use lib.Ieee.{of_bits}
 use Rattle.definition.specs.ChebyshevRayleighRitz.{later_multipliers}

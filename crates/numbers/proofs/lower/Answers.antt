@@ -1,4 +1,4 @@
--- : each arm returns what the test picks.
+-- Each arm returns what the test picks.
 use Rattle.numbers.proofs.lower.Goals as goal
 
 pub returns-then-x-most : goal.returns-then-x-most

@@ -1,5 +1,5 @@
--- : the least bound is below the largest.
-use Rattle.std.proofs.Common.{ap, ◌∙◌, rules}
+-- The least bound is below the largest.
+use Rattle.std.proofs.Common.{ap, ◌∙◌}
 use lib.Ieee.{Float, binary64, of_bits}
 use Rattle.definition.specs.Arith.{ieee64}
 use Rattle.numbers.specs.Answers.{lowered}

@@ -1,4 +1,4 @@
--- : each arm returns what the test picks.
+-- Each arm returns what the test picks.
 use Rattle.numbers.proofs.raise.Goals as goal
 
 pub returns-then-least-x : goal.returns-then-least-x

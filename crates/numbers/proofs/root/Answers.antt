@@ -1,4 +1,4 @@
--- , case by case of the pattern.
+-- Case by case of the pattern.
 use Rattle.std.proofs.Common.{◌^◌, ◌<◌, T, sym, subst, arith}
 use lib.Ieee.{binary64, fits, of_bits, to_bits, div}
 use Rattle.numbers.proofs.Values.{no_nan, nan-root, infinity_root, zero-root, minus_zero-root, minus_bits, finite-bits, finite_pattern, bits-root}
@@ -6,13 +6,16 @@ use Rattle.numbers.proofs.root.Goals as goal
 use Rattle.numbers.proofs.root.Goals.{Start}
 
 held : (c : Start) → T (fits binary64 c.args.x)
-held c = subst T (sym c.!well-formed.0.1) tt
+held c = subst T (sym c.well_formed.0.1) tt
 
 pub returns-then-x : goal.returns-then-x
 returns-then-x c = nan-root c.args.x c.if-x.true
 
 pub float_to_bits-bits : goal.float_to_bits-bits
 float_to_bits-bits c = no_nan c.args.x c.if-x.false
+
+pub returns-then-bits-eq9218868437227405312 : goal.returns-then-bits-eq9218868437227405312
+returns-then-bits-eq9218868437227405312 c = infinity_root c.args.x (held (goal.at.returns-then-bits-eq9218868437227405312 c).Start) c.if-bits-eq9218868437227405312.true
 
 pub returns-then-bits-eq0 : goal.returns-then-bits-eq0
 returns-then-bits-eq0 c = zero-root c.args.x (held (goal.at.returns-then-bits-eq0 c).Start) c.if-bits-eq0.true

@@ -1,4 +1,4 @@
--- : each arm returns what the test picks.
+-- Each arm returns what the test picks.
 use lib.Ieee.{of_bits}
 use Rattle.definition.specs.SpectralEmbedding.{scale_of}
 use Rattle.numbers.proofs.scale_of.Goals as goal

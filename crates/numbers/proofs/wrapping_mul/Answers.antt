@@ -1,4 +1,4 @@
-use Rattle.std.proofs.Common.{◌∙◌, mod-lt, arith, pow_pos, shr_lt, rules}
+use Rattle.std.proofs.Common.{◌∙◌, mod-lt, pow_pos, shr_lt}
 use mir.Facts.{Fits-bits}
 use Rattle.numbers.proofs.Wrap.{half_product, wrap_halves}
 use Rattle.numbers.proofs.wrapping_mul.Goals as goal
@@ -11,3 +11,6 @@ overflow_mul-s c = Fits-bits 64 tt (half_product _ _ (mod-lt c.args.a (pow_pos 3
 
 pub overflow_mul-w : goal.overflow_mul-w
 overflow_mul-w c = Fits-bits 64 tt (half_product _ _ (mod-lt c.args.a (pow_pos 32)) (mod-lt c.args.b (pow_pos 32)))
+
+pub returns : goal.returns
+returns c = c.wrapping_add_u64.ensures.value ∙ wrap_halves c.args.a c.args.b

@@ -1,5 +1,4 @@
 use mathlib.Core.Path.{◌∙◌}
-use borrow.Author.Rules.{rules}
 use Rattle.definition.specs.Refusals.{set_degree}
 use Rattle.input.proofs.Verdicts.{same-pick}
 use Rattle.input.proofs.SpectralParams.degree.Goals as goal

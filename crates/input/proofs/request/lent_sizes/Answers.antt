@@ -4,7 +4,6 @@ use Prim.Native.Nat.{ℕ, ◌+◌, ◌*◌, ◌≤◌}
 use native.Mathlib.Nat.{mul-le-mul}
 use native.Mathlib.Omega.{arith}
 use Rattle.definition.specs.Numbers.{chunks, lent_sizes}
-use borrow.Author.Rules.{rules}
 use Rattle.input.proofs.request.lent_sizes.Goals as goal
 
 -- k is at most 15, and the most rows have 256 chunks

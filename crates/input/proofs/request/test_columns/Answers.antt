@@ -2,7 +2,6 @@ use mathlib.Core.Path.{◌∙◌}
 use native.Mathlib.Omega.{arith}
 use Rattle.definition.specs.Refusals.{test_columns}
 use Rattle.definition.proofs.First.{given-first}
-use borrow.Author.Rules.{rules}
 use Rattle.input.proofs.request.test_columns.Goals as goal
 
 pub returns : goal.returns

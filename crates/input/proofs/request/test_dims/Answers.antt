@@ -1,7 +1,6 @@
 use mathlib.Core.Path.{ap, ◌∙◌}
 use mathlib.Core.Bool.{Bool, not}
 use Rattle.definition.specs.Refusals.{given, test_dims}
-use borrow.Author.Rules.{rules}
 use Rattle.input.proofs.request.test_dims.Goals as goal
 
 pub returns : goal.returns

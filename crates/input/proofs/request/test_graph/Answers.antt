@@ -1,11 +1,10 @@
--- : each test passes until one refuses.
+-- Each test passes until one refuses.
 use mathlib.Core.Path.{◌≡◌, ◌∙◌}
 use Prim.Native.Nat.{◌-◌}
 use lib.ListN.{length}
 use Rattle.definition.specs.Refusals.{Verdict, or_else, test_rows, test_limits, test_lengths, test_starts, test_columns, test_graph}
 use Rattle.input.specs.Said.{verdict_of}
 use Rattle.input.proofs.Verdicts.{refuses, goes_on_lem}
-use borrow.Author.Rules.{rules}
 use Rattle.input.proofs.request.test_graph.Goals as goal
 use Rattle.input.proofs.request.test_graph.Goals.{After-test_columns-below, Else-limits-ne0, Else-rising-ne0}
 
@@ -21,8 +20,9 @@ past-starts : (c : Else-rising-ne0) {w x : Verdict} → x ≡ w
     x ≡ or_else (test_rows g.starts.now) (or_else (test_limits g.starts.now g.columns.now)
     (or_else (test_lengths (length g.columns.now) (length g.values.now)) (or_else (test_starts g.starts.now g.columns.now) w)))
 past-starts c p =
-    past-limits (!Else-limits-ne0)
-    (goes_on_lem c.test_lengths-lengths.ensures c.if-lengths-ne0.false (goes_on_lem c.test_starts-rising.ensures c.if-rising-ne0.false p))
+    goes_on_lem c.test_rows-rows.ensures c.if-rows-ne0.false
+    (goes_on_lem c.test_limits-limits.ensures c.if-limits-ne0.false
+    (goes_on_lem c.test_lengths-lengths.ensures c.if-lengths-ne0.false (goes_on_lem c.test_starts-rising.ensures c.if-rising-ne0.false p)))
 
 columns-tested : (c : After-test_columns-below)
     → let g = c.args in
@@ -50,3 +50,9 @@ returns-then-rising-ne0 c =
 pub returns : goal.returns
 unfolding test_graph
 returns c = past-starts (goal.at.returns c).Else-rising-ne0 (goes_on_lem (columns-tested (goal.at.returns c).After-test_columns-below) c.if-below-ne0.false c.test_values.ensures)
+
+pub returns-then-below-ne0 : goal.returns-then-below-ne0
+unfolding test_graph
+returns-then-below-ne0 c =
+    past-starts (goal.at.returns-then-below-ne0 c).Else-rising-ne0
+    (refuses (columns-tested (goal.at.returns-then-below-ne0 c).After-test_columns-below) _ c.if-below-ne0.true)

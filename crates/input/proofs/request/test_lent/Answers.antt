@@ -5,7 +5,6 @@ use Rattle.definition.specs.Memory.{wholes_of}
 use Rattle.definition.specs.Refusals.{first_from, test_lent}
 use Rattle.input.specs.Said.{short}
 use Rattle.definition.proofs.First.{given-first}
-use borrow.Author.Rules.{rules}
 use Rattle.input.proofs.request.test_lent.Goals as goal
 
 pub lent_sizes-sizes-requires : goal.lent_sizes-sizes-requires

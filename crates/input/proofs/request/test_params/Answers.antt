@@ -1,6 +1,5 @@
 use Rattle.definition.specs.Refusals.{test_params}
 use Rattle.input.proofs.Verdicts.{refuses, goes_on_lem}
-use borrow.Author.Rules.{rules}
 use Rattle.input.proofs.request.test_params.Goals as goal
 
 pub returns-then-rounds-ne0 : goal.returns-then-rounds-ne0

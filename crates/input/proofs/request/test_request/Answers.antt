@@ -8,7 +8,6 @@ use Rattle.definition.specs.Memory.{wholes_of}
 use Rattle.definition.specs.Refusals.{test_lent, test_request}
 use Rattle.input.proofs.Accepted.{dims_valid, graph_valid, params_valid}
 use Rattle.input.proofs.Verdicts.{test_passes, refuses, goes_on_lem}
-use borrow.Author.Rules.{rules}
 use Rattle.input.proofs.request.test_request.Goals as goal
 
 pub returns-then-dims-ne0 : goal.returns-then-dims-ne0

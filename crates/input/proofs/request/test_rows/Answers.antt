@@ -1,5 +1,4 @@
 use Rattle.definition.specs.Refusals.{test_rows}
-use borrow.Author.Rules.{rules}
 use Rattle.input.proofs.request.test_rows.Goals as goal
 
 pub returns : goal.returns

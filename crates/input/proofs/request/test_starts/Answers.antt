@@ -7,7 +7,6 @@ use Rattle.definition.specs.Refusals.{given, given_first, falls, test_starts}
 use Rattle.input.specs.Said.{verdict_of}
 use Rattle.definition.proofs.First.{given-first}
 use Rattle.input.proofs.Verdicts.{refuses, goes_on_lem}
-use borrow.Author.Rules.{rules}
 use Rattle.input.proofs.request.test_starts.Goals as goal
 use Rattle.input.proofs.request.test_starts.Goals.{After-given-falls, After-given-first}
 

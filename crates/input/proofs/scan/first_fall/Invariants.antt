@@ -1,11 +1,8 @@
 -- The invariant: no start before i falls.
-use mathlib.Core.Path.{◌≡◌, refl, sym, ◌∙◌}
+use mathlib.Core.Path.{◌≡◌}
 use Prim.Native.Nat.{◌≤◌, ◌-◌}
-use native.Mathlib.Omega.{arith}
 use lib.ListN.{length}
-use borrow.Author.Tests.{lt-ltb, le-ltb}
 use Rattle.definition.specs.Refusals.{first_from, falls}
-use Rattle.definition.proofs.First.{first-here, first-later, first-none}
 use Rattle.input.proofs.scan.first_fall.Given as goal
 
 abbrev pub invariant-loop-i : goal.invariant-loop-i

@@ -1,10 +1,6 @@
-use mathlib.Core.Path.{◌≡◌, sym, ◌∙◌}
-use Prim.Native.Nat.{◌-◌}
+use mathlib.Core.Path.{sym, ◌∙◌}
 use native.Mathlib.Omega.{arith}
-use lib.ListN.{length}
 use borrow.Author.Tests.{le-leb, lt-leb}
-use Rattle.definition.specs.Refusals.{first_from}
-use Rattle.input.specs.Said.{high}
 use Rattle.definition.proofs.First.{first-start, first-here, first-later, first-none}
 use Rattle.input.proofs.scan.first_high_column.Goals as goal
 

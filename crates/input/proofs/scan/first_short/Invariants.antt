@@ -1,12 +1,9 @@
 -- The invariant: no lent memory before j is short.
-use mathlib.Core.Path.{◌≡◌, refl, sym, ◌∙◌}
+use mathlib.Core.Path.{◌≡◌}
 use Prim.Native.Nat.{◌-◌}
-use native.Mathlib.Omega.{arith}
-use borrow.Author.Tests.{lt-ltb, le-ltb}
 use Rattle.definition.specs.Memory.{wholes_of}
 use Rattle.definition.specs.Refusals.{first_from}
 use Rattle.input.specs.Said.{short}
-use Rattle.definition.proofs.First.{first-here, first-later, first-none}
 use Rattle.input.proofs.scan.first_short.Given as goal
 
 abbrev pub invariant-loop-j : goal.invariant-loop-j

@@ -1,13 +1,9 @@
 -- The invariant: no value before e is NaN or infinite.
-use mathlib.Core.Path.{◌≡◌, sym, ap, ◌∙◌}
-use mathlib.Core.Bool.{not}
+use mathlib.Core.Path.{◌≡◌}
 use Prim.Native.Nat.{◌-◌}
-use native.Mathlib.Omega.{arith}
-use borrow.Author.Rules.{rules}
 use lib.ListN.{length}
 use Rattle.definition.specs.Refusals.{first_from}
 use Rattle.input.specs.Said.{unfinite}
-use Rattle.definition.proofs.First.{first-start, first-here, first-later, first-none}
 use Rattle.input.proofs.scan.first_unfinite.Given as goal
 
 abbrev pub invariant-loop-e : goal.invariant-loop-e

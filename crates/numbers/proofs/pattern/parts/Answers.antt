@@ -1,6 +1,5 @@
--- , for a subnormal and for a normal value.
+-- For a subnormal and for a normal value.
 use Rattle.numbers.proofs.Values.{normal-split, small-split}
-use Rattle.std.proofs.Common.{rules}
 use Rattle.numbers.proofs.pattern.parts.Goals as goal
 
 pub returns-then-field-eq0 : goal.returns-then-field-eq0

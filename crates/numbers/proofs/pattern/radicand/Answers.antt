@@ -1,6 +1,5 @@
--- , for an even exponent and for an odd one.
+-- For an even exponent and for an odd one.
 use Rattle.numbers.proofs.Values.{radicand_even, radicand_odd}
-use Rattle.std.proofs.Common.{rules}
 use Rattle.numbers.proofs.pattern.radicand.Goals as goal
 
 pub returns-then-exp-eq0 : goal.returns-then-exp-eq0

@@ -1,5 +1,5 @@
--- : `pattern_root` at what the four callees ensure.
-use Rattle.std.proofs.Common.{◌+◌, ◌-◌, ◌*◌, ◌/◌, ◌^◌, arith, rules}
+-- `pattern_root` at what the four callees ensure.
+use Rattle.std.proofs.Common.{◌+◌, ◌-◌, ◌*◌, ◌/◌, ◌^◌, arith}
 use Rattle.numbers.specs.Steps.{Patterned}
 use Rattle.numbers.proofs.Values.{pattern_root}
 use Rattle.numbers.proofs.Digits.{floor_ge, floor_lt}

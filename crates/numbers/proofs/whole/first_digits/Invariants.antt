@@ -1,6 +1,6 @@
 -- The invariant is `Turn`: q and r are the root and the remainder of the radicand's bits brought down so far.
-use Rattle.std.proofs.Common.{◌-◌, ⊎_elim, arith}
-use Rattle.numbers.proofs.Digits.{Turn, turn_first_lem, turn_odd, turn_even, turn_small, turn_last}
+use Rattle.std.proofs.Common.{◌-◌}
+use Rattle.numbers.proofs.Digits.{Turn}
 use Rattle.numbers.proofs.whole.first_digits.Given as goal
 
 abbrev pub invariant-loop-i : goal.invariant-loop-i

@@ -1,8 +1,8 @@
--- : `Divided` has every bound, and the quotient is right or too large by one.
-use Rattle.std.proofs.Common.{⊎_elim, arith, rules}
+-- `Divided` has every bound, and the quotient is right or too large by one.
+use Rattle.std.proofs.Common.{arith}
 use Rattle.numbers.proofs.Digits.{Divided, divided, Ended, exact, corrected}
 use Rattle.numbers.proofs.whole.more_digits.Goals as goal
-use Rattle.numbers.proofs.whole.more_digits.Goals.{Joined-left-square, Start}
+use Rattle.numbers.proofs.whole.more_digits.Goals.{Joined-left-square, Start, then-left-square, else-left-square}
 
 bounds : (c : Start) → Divided c.args.s c.args.r c.args.base c.args.low c.requires
 bounds c = divided c.args.s c.args.r c.args.base c.args.low c.requires
@@ -11,9 +11,10 @@ ended : (c : Joined-left-square) → Ended c.args.s c.args.r c.args.base c.args.
 ended c =
     let a = c.args in
     let h = c.requires in
-    ⊎_elim (λ w. rw (w.1, w.2) (corrected a.s a.r a.base a.low h w.0.taken))
-    (λ w. rw (w.1, w.2) (exact a.s a.r a.base a.low h w.0.left))
-    c.if-left-square.branch
+    elim c.if-left-square.branch [
+      | then-left-square w ↦ rw (w.less-is, w.more-is) (corrected a.s a.r a.base a.low h w.if-left-square.true)
+      | else-left-square w ↦ rw (w.less-is, w.more-is) (exact a.s a.r a.base a.low h w.if-left-square.false)
+    ]
 
 pub overflow_mul-twice : goal.overflow_mul-twice
 overflow_mul-twice c = omega (arith, bounds (goal.at.overflow_mul-twice c).Start)
@@ -53,3 +54,6 @@ overflow_sub-rest c = (ended (goal.at.overflow_sub-rest c).Joined-left-square).e
 
 pub returns : goal.returns
 returns c = (ended (goal.at.returns c).Joined-left-square).root
+
+pub overflow_sub-root : goal.overflow_sub-root
+overflow_sub-root c = (ended (goal.at.overflow_sub-root c).Joined-left-square).lowered

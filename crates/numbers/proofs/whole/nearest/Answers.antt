@@ -1,6 +1,5 @@
--- : the remainder says on which side of the half-way point the root lies.
+-- The remainder says on which side of the half-way point the root lies.
 use Rattle.numbers.proofs.Digits.{rounded_down, rounded_up}
-use Rattle.std.proofs.Common.{rules}
 use Rattle.numbers.proofs.whole.nearest.Goals as goal
 
 pub returns-then-r-q : goal.returns-then-r-q

@@ -1,0 +1,28 @@
+use mathlib.Core.List.{[], ◌∷◌, ◌++◌}
+use Prim.Native.Nat.{ℕ, ◌+◌, ◌*◌}
+use native.Mathlib.Omega.{arith}
+use lib.Ieee.{Float, nan}
+use lib.ListN.{get_or}
+use Rattle.printing.specs.Printed.{row_name, numbers_text}
+use Rattle.printing.proofs.Putting.{Put, put_then}
+use Rattle.printing.proofs.Texts.{numbers-most}
+use Rattle.printing.proofs.put_row.Goals as goal
+
+pub put_text-requires : goal.put_text-requires
+put_text-requires c =
+    let args = c.args in
+    let row : ℕ → Float = λ k. get_or args.seed.now (args.i * args.d + k) nan in
+    omega (arith, c.put_numbers-next.ensures.0, c.put_text-named.ensures.0, numbers-most row args.d)
+
+pub returns : goal.returns
+returns c =
+    let args = c.args in
+    let named = c.put_text-named in
+    let numbers = c.put_numbers-next in
+    let end = c.put_text in
+    let row : ℕ → Float = λ k. get_or args.seed.now (args.i * args.d + k) nan in
+    let most = numbers-most row args.d in
+    let p : Put row_name args.at args.out.now named.result named.new.out = named.ensures in
+    let q : Put (numbers_text row args.d) named.result named.new.out numbers.result numbers.new.out = numbers.ensures in
+    put_then row_name (numbers_text row args.d ++ (10 ∷ [])) args.at args.out.now (omega arith) p
+    (put_then (numbers_text row args.d) (10 ∷ []) named.result named.new.out (omega arith) q end.ensures)

@@ -1,0 +1,25 @@
+use mathlib.Core.Path.{sym, ap, ◌∙◌}
+use native.Mathlib.Omega.{arith}
+use Rattle.reading.specs.ReadRun.{record_of}
+use Rattle.reading.proofs.Arrays.{taken, not_taken, not_found}
+use Rattle.reading.proofs.Lists.{starts-wrong, starts-right, inside-next}
+use Rattle.reading.proofs.read_lists.Goals as goal
+
+pub read_line-line5-requires : goal.read_line-line5-requires
+read_line-line5-requires c = (c.requires, omega arith)
+
+pub returns-in_default : goal.returns-in_default
+returns-in_default c =
+    let a = c.args in
+    let h = a.head in
+    c.faulty.ensures ∙ sym (ap record_of (starts-wrong a.bytes.now h.d h.rounds h.degree h.seed a.from (not_taken _ _ _ _ c.read_line-line5.ensures (not_found _ c.in_default.not-Found))))
+
+pub read_entries-requires : goal.read_entries-requires
+read_entries-requires c = inside-next 4 (omega arith) _ _ _ _ _ _ c.requires (taken _ 65 _ _ _ _ c.read_line-line5.ensures c.in-Found.is)
+
+pub returns : goal.returns
+returns c =
+    let a = c.args in
+    let h = a.head in
+    let t = taken _ 65 _ _ _ _ c.read_line-line5.ensures c.in-Found.is in
+    c.read_entries.ensures t.numbers t.counted t.stored ∙ sym (ap record_of (starts-right a.bytes.now h.d h.rounds h.degree h.seed a.from t.numbers _ t.is))

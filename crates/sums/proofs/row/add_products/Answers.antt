@@ -1,0 +1,40 @@
+use mathlib.Core.Path.{◌≡◌, sym, ap}
+use Prim.Native.Nat.{ℕ, ◌≤◌, ◌*◌, ◌+◌}
+use native.Mathlib.Omega.{arith}
+use Rattle.definition.specs.Arith.{ieee64}
+use Rattle.definition.proofs.Places.{row_next, row_end, square-most}
+use Rattle.sums.proofs.Partials.{row_in, column_in_lem, raised-none, raised-next, raised_to}
+use Rattle.sums.proofs.row.add_products.Goals as goal
+use Rattle.sums.proofs.row.add_products.Goals.{In-loop-p}
+
+-- row p of the products lies among the sums
+inside : (c : In-loop-p) → c.loop-p.p * c.args.k + c.args.k ≤ 225
+inside c =
+    let k = c.args.k in
+    omega (arith, row_end c.loop-p.p k k (omega arith), square-most k (omega arith))
+
+pub loop-p-init : goal.loop-p-init
+loop-p-init c = (omega arith, raised-none ieee64 _ _ _ _ (omega arith))
+
+pub loop-p-preserved : goal.loop-p-preserved
+loop-p-preserved c =
+    let l = c.loop-p in
+    let k = c.args.k in (
+      omega arith,
+      raised_to ieee64 0 _ _
+          (raised-next ieee64 0 (l.p * k) (l.p * k + k) _ _ _ (omega arith) (omega arith) l.invariant.1 c.add_times.ensures
+          (λ q u v. rw (row_in k l.p q u v, column_in_lem k l.p q u v)))
+          (sym (row_next l.p k)),
+    )
+
+pub returns : goal.returns
+returns c =
+    let k = c.args.k in
+    let e : c.loop-p.p ≡ k = omega arith in
+    raised_to ieee64 0 _ _ c.loop-p.invariant.1 (ap (λ (x : ℕ). x * k) e)
+
+pub overflow_mul-p : goal.overflow_mul-p
+overflow_mul-p c = omega (arith, inside (goal.at.overflow_mul-p c).In-loop-p)
+
+pub add_times-requires : goal.add_times-requires
+add_times-requires c = omega (arith, inside (goal.at.add_times-requires c).In-loop-p)

@@ -1,0 +1,10 @@
+-- The sums, copied.
+use native.Mathlib.Omega.{arith}
+use Rattle.definition.specs.Arith.{ieee64}
+use Rattle.definition.specs.Memory.{block_of, place}
+use Rattle.sums.proofs.Partials.{summed-put}
+use Rattle.sums.proofs.sums_partial.Goals as goal
+
+pub returns : goal.returns
+unfolding block_of place
+returns c = summed-put ieee64 _ _ _ _ _ _ (omega arith) c.numbers.ensures c.put_partial.ensures

@@ -1,0 +1,16 @@
+-- The partials are rows of k * k numbers.
+use native.Mathlib.Nat.{mul_assoc}
+use native.Mathlib.Omega.{arith}
+use Rattle.definition.proofs.Places.{square-most}
+use Rattle.sums.specs.Accumulators.{summed}
+use Rattle.sums.proofs.totals.Goals as goal
+
+pub overflow_mul-k : goal.overflow_mul-k
+overflow_mul-k c = omega (arith, square-most c.args.k (omega arith))
+
+pub numbers-requires : goal.numbers-requires
+numbers-requires c = let a = c.args in omega (arith, square-most a.k (omega arith), mul_assoc a.chunks a.k a.k)
+
+pub returns : goal.returns
+unfolding summed
+returns c = c.numbers.ensures
