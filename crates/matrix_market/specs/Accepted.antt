@@ -1,5 +1,5 @@
 -- What is shown of every accepted file: the graph that the call leaves in front of the lent lists. Definitions only.
-use Rattle.std.specs.Prelude.{List, take, ◌+◌}
+use Rattle.std.specs.Prelude.{take, ◌+◌}
 use Rattle.mirrored.specs.Graph.{Symmetric}
 use Rattle.matrix_market.specs.Outcome.{Outcome}
 

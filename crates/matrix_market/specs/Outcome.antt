@@ -2,7 +2,7 @@
 use Rattle.std.specs.Prelude.{cond, ◌||◌, List, [], ◌∷◌, ℕ, ◌+◌, ◌*◌, min, eqb, ltb, Float, length, get_or}
 use Rattle.definition.specs.Numbers.{rows_most, entries_most}
 use Rattle.definition.specs.Refusals.{Verdict, accepted, refused, given, or_else, given_first, passes}
-use Rattle.market.specs.Market.{Entry, Read, market, fault, Head, sized, wrong}
+use Rattle.market.specs.Market.{Read, market, fault, Head, sized, wrong}
 use Rattle.market.specs.Graph.{placed_of, with_starts, with_columns, with_values}
 
 -- 2 for no rows, 3 for n or the entries over their limit

@@ -1,4 +1,6 @@
 // The reader of Matrix Market files: the text is tested whole before a lent number is written.
+#![tactic(auto)]
+
 ghost use Rattle.std.specs.Prelude.{◌≡◌, true, [], ℕ, ◌+◌, ◌*◌, ◌≤◌, min, length};
 ghost use Rattle.definition.specs.Memory.{fill_range};
 ghost use Rattle.definition.specs.Numbers.{rows_most, entries_most};
