@@ -1,4 +1,3 @@
-use borrow.Author.Rules.{rules}
 use Rattle.closing.proofs.moves.close_norm_before.Goals as goal
 
 pub returns : goal.returns

@@ -1,4 +1,3 @@
-use borrow.Author.Rules.{rules}
 use Rattle.closing.proofs.moves.totals_to.Goals as goal
 
 pub returns : goal.returns

@@ -1,5 +1,4 @@
 use borrow.Author.Tests.{lt-ltb, le-ltb}
-use borrow.Author.Rules.{rules}
 use Rattle.closing.proofs.passes.after_filter.Goals as goal
 
 pub returns-then-following-asked : goal.returns-then-following-asked

@@ -1,5 +1,4 @@
 use borrow.Author.Tests.{eq-eqb, ne_eqb}
-use borrow.Author.Rules.{rules}
 use Rattle.closing.proofs.passes.alpha_after.Goals as goal
 
 pub returns-then-pass-eq0 : goal.returns-then-pass-eq0

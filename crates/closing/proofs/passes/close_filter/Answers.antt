@@ -1,6 +1,5 @@
 use native.Mathlib.Omega.{arith}
 use Rattle.closing.proofs.Room.{passes-room}
-use borrow.Author.Rules.{rules}
 use Rattle.closing.proofs.passes.close_filter.Goals as goal
 
 pub overflow_add-passes : goal.overflow_add-passes

@@ -1,10 +1,8 @@
 use mathlib.Core.Path.{◌≡◌, refl}
-use Prim.Native.Nat.{suc, ◌+◌, ◌-◌, ◌*◌, ◌≤◌}
+use Prim.Native.Nat.{suc, ◌+◌, ◌-◌, ◌*◌}
 use native.Mathlib.Nat.{sub_self}
 use native.Mathlib.Omega.{arith}
 use lib.ListN.{length, length-set}
-use Rattle.definition.specs.Arith.{ieee64}
-use Rattle.definition.specs.Memory.{fill_range}
 use Rattle.definition.proofs.Fill.{fill_start, fill_step, fill_to, fill_next}
 use Rattle.machine.specs.Closing.{recorded, round_recorded}
 use Rattle.closing.proofs.record.record_round.Goals as goal

@@ -1,13 +1,10 @@
 -- The loop fills the places behind the bound's.
-use mathlib.Core.Path.{◌≡◌, refl}
-use Prim.Native.Nat.{suc, ◌+◌, ◌-◌, ◌*◌, ◌≤◌}
-use native.Mathlib.Nat.{sub_self}
-use native.Mathlib.Omega.{arith}
-use lib.ListN.{length, length-set}
+use mathlib.Core.Path.{◌≡◌}
+use Prim.Native.Nat.{◌+◌, ◌-◌, ◌≤◌}
+use lib.ListN.{length}
 use Rattle.definition.specs.Arith.{ieee64}
 use Rattle.definition.specs.Memory.{fill_range}
-use Rattle.definition.proofs.Fill.{fill_start, fill_step, fill_to, fill_next}
-use Rattle.machine.specs.Closing.{recorded, round_recorded}
+use Rattle.machine.specs.Closing.{recorded}
 use Rattle.closing.proofs.record.record_round.Given as goal
 
 abbrev pub invariant-loop-j : goal.invariant-loop-j

@@ -1,15 +1,13 @@
-use mathlib.Core.Path.{◌≡◌, ap, ◌∙◌}
+use mathlib.Core.Path.{ap, ◌∙◌}
 use mathlib.Core.List.{List}
-use Prim.Native.Nat.{◌+◌, ◌-◌, ◌≤◌}
 use native.Mathlib.Omega.{arith}
 use lib.Ieee.{Float, nan}
-use lib.ListN.{length, length-set}
+use lib.ListN.{length-set}
 use Rattle.definition.specs.Arith.{ieee64, narrowed}
 use Rattle.definition.specs.Memory.{vector_of, fill_range}
 use Rattle.definition.specs.SpectralEmbedding.{spread, scale_of}
 use Rattle.definition.proofs.Fill.{fill_start, fill_step, fill_ahead, fill_to}
 use Rattle.machine.specs.Closing.{scales_of}
-use Rattle.definition.proofs.Places.{square-least}
 use Rattle.closing.proofs.Room.{totals-room}
 use Rattle.closing.proofs.reduced.column_scales.Goals as goal
 

@@ -4,7 +4,6 @@ use Prim.Native.Nat.{◌+◌, ◌*◌}
 use native.Mathlib.Omega.{arith}
 use lib.Ieee.{nan, binary64}
 use lib.ListN.{get_or}
-use borrow.Author.Rules.{rules}
 use Rattle.definition.specs.Arith.{ieee64}
 use Rattle.definition.specs.Root.{root_of}
 use Rattle.definition.specs.ChunkedColumnReduce.{sum_up}

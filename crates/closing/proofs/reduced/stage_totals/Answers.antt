@@ -1,6 +1,4 @@
 use mathlib.Core.Path.{◌∙◌}
-use native.Mathlib.Omega.{arith}
-use borrow.Author.Rules.{rules}
 use Rattle.machine.specs.Closing.{totals_of, total_at}
 use Rattle.closing.proofs.reduced.stage_totals.Goals as goal
 

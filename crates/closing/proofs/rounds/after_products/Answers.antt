@@ -1,5 +1,4 @@
 use borrow.Author.Tests.{lt-ltb, le-ltb}
-use borrow.Author.Rules.{rules}
 use Rattle.closing.proofs.rounds.after_products.Goals as goal
 
 pub returns-then-following-rounds : goal.returns-then-following-rounds

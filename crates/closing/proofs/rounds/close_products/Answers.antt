@@ -1,15 +1,10 @@
-use mathlib.Core.Path.{ap, ◌∙◌}
 use Prim.Native.Nat.{◌+◌}
-use lib.ListN.{length}
 use Rattle.definition.specs.Arith.{ieee64}
 use Rattle.machine.specs.Closing.{symmetric_in, eigen_matrix, eigen_vectors, order_in}
 use native.Mathlib.Omega.{arith}
-use Rattle.definition.proofs.Fill.{fill_length}
-use Rattle.definition.proofs.Places.{square-most, row_end}
+use Rattle.definition.proofs.Places.{square-most}
 use Rattle.closing.proofs.Order.{order_below}
-use Rattle.closing.proofs.Room.{totals-room}
 use Rattle.closing.proofs.Round.{round_made}
-use borrow.Author.Rules.{rules}
 use Rattle.closing.proofs.rounds.close_products.Goals as goal
 
 pub overflow_mul-k : goal.overflow_mul-k

@@ -3,7 +3,6 @@ use Rattle.definition.specs.OrthonormalizeBlock.{raised_refreshed, raised_zeroed
 use Rattle.machine.specs.Work.{ending_in}
 use native.Mathlib.Omega.{arith}
 use Rattle.closing.proofs.Room.{refreshed-room, zeroed-room}
-use borrow.Author.Rules.{rules}
 use Rattle.closing.proofs.written.close_write.Goals as goal
 
 pub overflow_add-refreshed : goal.overflow_add-refreshed

@@ -1,5 +1,4 @@
 use borrow.Author.Tests.{lt-ltb, le-ltb}
-use borrow.Author.Rules.{rules}
 use Rattle.closing.proofs.written.next_column.Goals as goal
 
 pub returns-then-following-k : goal.returns-then-following-k
