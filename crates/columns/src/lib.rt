@@ -11,7 +11,6 @@ ghost use Rattle.definition.specs.Memory.{place, vector_of, block_of, number_at,
 ghost use Rattle.definition.specs.OrthonormalizeBlock.{with_column, delta, subtracted, kept, refreshed, zeroed, fresh_index, written};
 ghost use Rattle.columns.specs.Rows.{Part, Within, Fresh, shifted};
 
-pub mod exports;
 pub mod marks;
 pub mod output;
 

@@ -1,5 +1,7 @@
 // Repeats among the entries of a Matrix Market text that stand in no rising order, looked for in bounded memory: block by block of the
 // entries, each in one pass over what stands behind it.
+#![tactic(auto)]
+
 ghost use Rattle.std.specs.Prelude.{◌≡◌, false, ◌&&◌, [], ◌+◌, ◌≤◌, ◌<◌, eqb, length};
 ghost use Rattle.lines.specs.Lines.{holds};
 ghost use Rattle.lines.specs.Kinds.{kinds_at};

@@ -6,7 +6,6 @@
 pub mod degrees; // degrees.rt: roots, inverse weights and v0
 pub mod start; // start.rt: the start block
 pub mod pass; // pass.rt: one pass of the operator
-pub mod exports; // exports.rt: for programs in other languages
 
 pub use degrees::{degrees_chunk, v0_chunk};
 pub use pass::matvec_combine;
