@@ -20,11 +20,16 @@ module _ (p : ℕ → Bool) where
   passing-between a zero = record { least = λ j h. absurd (omega arith); most = λ j h. absurd (omega arith) }
   passing-between a (suc m) = go (p a) (passing p (suc a) m) (passing-between (suc a) m)
     where
+      from_a : (l : List ℕ) → Between (suc a) (suc a + m) l → (j : ℕ) → j < length (a ∷ l) → a ≤ get_or (a ∷ l) j 0
+      from_a l h zero q = omega arith
+      from_a l h (suc k) q = omega (arith, h.least k (omega arith))
+
+      to_end : (l : List ℕ) → Between (suc a) (suc a + m) l → (j : ℕ) → j < length (a ∷ l) → get_or (a ∷ l) j 0 < a + suc m
+      to_end l h zero q = omega arith
+      to_end l h (suc k) q = omega (arith, h.most k (omega arith))
+
       go : (b : Bool) (l : List ℕ) → Between (suc a) (suc a + m) l → Between a (a + suc m) (cond b (a ∷ l) l)
-      go true l h = record {
-        least = λ j. elim j [ zero ↦ λ q. omega arith | suc k ↦ λ q. omega (arith, h.least k (omega arith)) ];
-        most = λ j. elim j [ zero ↦ λ q. omega arith | suc k ↦ λ q. omega (arith, h.most k (omega arith)) ];
-      }
+      go true l h = record { least = from_a l h; most = to_end l h }
       go false l h = record { least = λ j q. omega (arith, h.least j q); most = λ j q. omega (arith, h.most j q) }
 
   pub passing_strict : (a m : ℕ) → Strict (passing p a m)
