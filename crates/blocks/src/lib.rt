@@ -1,6 +1,8 @@
 // The chunk work of the stages that read or write one of the three blocks which the state names.
 // Each stage's contract speaks of all lent memory: whatever the lists are that it isn't lent, all of
 // them are then the machine's work of what they were.
+#![tactic(auto)]
+
 mod choice; // choice.rt: the block of a number, and the one that a pass writes
 mod partials; // partials.rt: the stages that write partials
 mod column; // column.rt: the stages that write a column of the current block

@@ -81,7 +81,7 @@ fn is_answered(run: &[u8], stored: &[u8]) -> bool {
 // ---- the cases
 
 // The place behind a case.
-#[derive(Drop)]
+#[derive(Clone, Copy)]
 enum Case {
     Done(usize),
     NoMore,

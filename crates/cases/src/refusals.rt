@@ -7,7 +7,7 @@ use input::{SpectralParams, Verdict};
 // ---- the first writer
 
 // Lists of so many zeros, and what must be answered. D, the degree and seed_std are 0, so that 1, 9 and 10 have their faults too.
-#[derive(Drop)]
+#[derive(Clone, Copy)]
 struct Run {
     rounds: u64,
     starts: usize,
@@ -87,7 +87,7 @@ pub fn of_files(t: &mut Tally) {
 // ---- the second writer
 
 // So many zeros as the seed of n rows, and what must be answered.
-#[derive(Drop)]
+#[derive(Clone, Copy)]
 struct Seed {
     d: u64,
     n: usize,

@@ -10,7 +10,7 @@ const LARGEST: u64 = 0xffff_ffff_ffff_ffff;
 pub const NUMBERS_MOST: usize = 448;
 
 // What the second writer is asked. With a refusal all else is zero; row i of the n rows has its d numbers from i x d on.
-#[derive(Drop)]
+#[derive(Clone, Copy)]
 pub struct Said {
     pub verdict: Verdict,
     pub d: u64,
@@ -21,7 +21,7 @@ pub struct Said {
 }
 
 // A number, and the place behind it.
-#[derive(Drop)]
+#[derive(Clone, Copy)]
 struct Number {
     value: u64,
     next: usize,

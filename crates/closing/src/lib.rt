@@ -1,5 +1,7 @@
 // What closing a stage does: the serial part, where the run goes on, and a round's places of the Ritz record. Document 01, "The held run".
 // A stage is its number in the order of the machine's `Stage` (crates/machine/specs/State.antt).
+#![tactic(auto)]
+
 ghost use Rattle.std.specs.Prelude.{◌≡◌, ◌+◌, ◌*◌, ◌≤◌, length};
 ghost use Rattle.definition.specs.Arith.{ieee64};
 ghost use Rattle.machine.specs.State.{stage_of, wide, chunk_count};

@@ -9,7 +9,7 @@ use input::SpectralParams;
 use state::{Answer, State};
 
 // A run on its way: how much of the lists it is compared by, its state, the empty state, and the walk.
-#[derive(Drop)]
+#[derive(Clone, Copy)]
 pub struct Run {
     pub sizes: Sizes,
     pub state: State,
@@ -18,7 +18,7 @@ pub struct Run {
 }
 
 // What a call answered, and whether the lists were as before where they are watched.
-#[derive(Drop)]
+#[derive(Clone, Copy)]
 pub struct Seen {
     pub answer: Answer,
     pub is_kept: bool,
@@ -139,7 +139,7 @@ pub fn judged(run: Run, seen: Seen) -> Run {
 
 // What is called: nothing, a chunk by its number, closing, or opening; with what state, what is asked, and how much of the graph and the Ritz
 // record is lent.
-#[derive(Drop)]
+#[derive(Clone, Copy)]
 pub struct Asking {
     pub kind: u64,
     pub number: usize,

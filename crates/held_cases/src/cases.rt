@@ -1,7 +1,7 @@
 // The cases: the oracle's `big` graphs with the answers that oracle/vectors/big.txt stores, and document 01's case 11.
 
 // A case, and what its run must come to.
-#[derive(Drop)]
+#[derive(Clone, Copy)]
 pub struct Case {
     pub rows: usize,
     pub number: u64,

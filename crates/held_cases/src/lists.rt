@@ -33,7 +33,7 @@ pub type Output = [f64; 18003];
 pub type RitzRecord = [f64; 50];
 
 // How many numbers of each lent list are meant: the list of a row's numbers, of an entry's, and so on.
-#[derive(Drop)]
+#[derive(Clone, Copy)]
 pub struct Sizes {
     pub rows: usize,
     pub entries: usize,

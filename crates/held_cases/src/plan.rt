@@ -36,7 +36,7 @@ pub const OPENING: u64 = 3;
 
 // What is called; the chunk's number; the state that it is given (0 the run's own, else a kind of damage); what is spoiled;
 // the refusal that it must meet, with its place; and whether all lists are compared before and after it.
-#[derive(Drop)]
+#[derive(Clone, Copy)]
 pub struct Call {
     pub kind: u64,
     pub number: usize,
@@ -48,7 +48,7 @@ pub struct Call {
 }
 
 // Refused calls by their number.
-#[derive(Drop)]
+#[derive(Clone, Copy)]
 pub struct Refused {
     pub by12: u64,
     pub by13: u64,
@@ -58,7 +58,7 @@ pub struct Refused {
 }
 
 // Where a run is: its order, its number of chunks, stages closed, the step in the stage, the chunks done in it as bits; and what is counted.
-#[derive(Drop)]
+#[derive(Clone, Copy)]
 pub struct Walk {
     pub order: usize,
     pub chunks: usize,

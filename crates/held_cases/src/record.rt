@@ -9,7 +9,7 @@ const PRODUCTS: usize = 14;
 
 // The looks of a run: how many numbers were of finished rounds at the last one, and their digest; how many looks there were, and how many
 // were right.
-#[derive(Drop)]
+#[derive(Clone, Copy)]
 pub struct Looks {
     pub kept: usize,
     pub digest: u64,

@@ -8,7 +8,7 @@ use std::io;
 
 // The upward run of the case at hand, the differences in it so far, its refused calls; and over all cases the runs, the differences,
 // the accepted calls, the refused ones by number, and the looks at the Ritz record with those that were right.
-#[derive(Drop)]
+#[derive(Clone, Copy)]
 pub struct Tally {
     pub upward: End,
     pub differences_here: u64,

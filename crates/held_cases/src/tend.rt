@@ -19,7 +19,7 @@ const LENT: f64 = 5.0;
 
 // What is done, to how much of each list; what is mended before it and what is spoiled after it, with the place of the mark; how many
 // numbers of the output are the seed; and how many of the Ritz record are of rounds that had finished at the look before, and have now.
-#[derive(Drop)]
+#[derive(Clone, Copy)]
 pub struct Tend {
     pub what: u64,
     pub sizes: Sizes,
@@ -33,7 +33,7 @@ pub struct Tend {
 
 // A look at the Ritz record: how many numbers are of finished rounds, the digest of those that were before and of those that are now, and
 // whether they, and no others, are written.
-#[derive(Drop)]
+#[derive(Clone, Copy)]
 pub struct Look {
     pub count: usize,
     pub kept: u64,
@@ -42,7 +42,7 @@ pub struct Look {
 }
 
 // The digest of the lists, the oracle's of the seed, and the look.
-#[derive(Drop)]
+#[derive(Clone, Copy)]
 pub struct Found {
     pub lists: u64,
     pub seed: u64,

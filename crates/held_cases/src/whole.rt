@@ -16,7 +16,7 @@ use std::io;
 
 // What a run comes to: the oracle's digest of the seed, a digest of the state and all lists, and what was counted: calls, and looks at the
 // Ritz record with those that were right.
-#[derive(Drop)]
+#[derive(Clone, Copy)]
 pub struct End {
     pub digest: u64,
     pub all: u64,
@@ -49,7 +49,7 @@ const END: u64 = 7;
 
 // Where the program is: what was counted; the run by its number; what the next turn is for; the run's steps so far, the entries of its
 // graph, a digest of its lists to compare with, the looks at its record, and the run itself.
-#[derive(Drop)]
+#[derive(Clone, Copy)]
 pub struct Book {
     pub tally: Tally,
     pub number: usize,
@@ -62,7 +62,7 @@ pub struct Book {
 }
 
 // A turn: whether the graph is made anew, and which; what is done to the lists; and the call.
-#[derive(Drop)]
+#[derive(Clone, Copy)]
 pub struct Turn {
     pub is_new: bool,
     pub number: u64,

@@ -28,7 +28,7 @@ const LARGEST32: u64 = 0xffff_ffff;
 // The numbers of a run file; zeros behind those of each list. Where the bytes are none, only `line` says something: the first line that is
 // wrong, missing, extra or over a size, from 1, or 0 for too many bytes.
 #[repr(C)]
-#[derive(Drop)]
+#[derive(Clone, Copy)]
 pub struct RunFile {
     pub is_right: bool,
     pub line: u64,

@@ -1,5 +1,7 @@
 // A chunk's work in each stage of a held run, and the choice among the stages. The stages over one of the three blocks are the
 // crate `blocks`'s.
+#![tactic(auto)]
+
 pub mod setup; // setup.rt: degrees, edges, v0
 pub mod passes; // passes.rt: the filter's passes and the plain pass
 pub mod output; // output.rt: sums, centre, squares, scale

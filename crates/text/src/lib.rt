@@ -1,4 +1,6 @@
 // The text program's work, on bytes: a run file in, the seed with its counts out, or a refusal.
+#![tactic(auto)]
+
 ghost use Rattle.std.specs.Prelude.{◌≡◌, ◌≤◌, length, take};
 ghost use Rattle.digits.specs.Placed.{put};
 ghost use Rattle.printing.specs.Printed.{refusal_text, room};

@@ -1,4 +1,4 @@
--- : each way out is a case of the run of digits.
+-- each way out is a case of the run of digits.
 use mathlib.Core.Path.{◌∙◌}
 use native.Mathlib.Omega.{arith}
 use Rattle.digits.proofs.Scans.{run_inside, run_empty, run_leading, run-zero, run-number}

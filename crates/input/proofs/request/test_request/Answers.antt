@@ -1,4 +1,4 @@
--- : each test passes until one refuses, and no size overflows after the limits have passed.
+-- each test passes until one refuses, and no size overflows after the limits have passed.
 use mathlib.Core.Path.{ap, ◌∙◌}
 use Prim.Native.Nat.{ℕ}
 use native.Mathlib.Omega.{arith}

@@ -1,4 +1,4 @@
--- : each test passes until one refuses.
+-- each test passes until one refuses.
 use mathlib.Core.Path.{◌∙◌}
 use native.Mathlib.Nat.{mul-le-mul}
 use native.Mathlib.Omega.{arith}

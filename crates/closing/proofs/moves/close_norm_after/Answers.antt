@@ -1,0 +1,4 @@
+use Rattle.closing.proofs.moves.close_norm_after.Goals as goal
+
+pub returns : goal.returns
+returns c = rw c.stage_norm-norm.ensures
