@@ -2,6 +2,8 @@
 // refused, and with a stop in the middle from which the run goes on with stored lists. Each run is compared with the oracle's answers
 // and with the run in the first order: the state and all eleven lists, number by number, by a digest. After the opening and each accepted
 // call the Ritz record is looked at: the numbers of finished rounds have been written and stay, and all behind them are as they were lent.
+#![tactic(auto)]
+
 mod calls; // calls.rt: a run's calls, and whether each answers what it must
 mod cases; // cases.rt: graphs, and the oracle's answers
 mod damage; // damage.rt: states that must be refused
