@@ -3,6 +3,8 @@
 // number. What the calls come to together is proved in crate `promises`.
 //
 // Argument order: what is asked, the graph (starts, columns, values), the lent memory in document 01's order 0 to 10.
+#![tactic(auto)]
+
 mod chunks; // chunks.rt: a chunk's work and its mark
 mod opening; // opening.rt: the first state, and the call that answers it
 mod stage_end; // stage_end.rt: closing a stage

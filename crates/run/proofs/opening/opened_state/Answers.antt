@@ -1,0 +1,7 @@
+use mathlib.Core.Path.{◌∙◌}
+use Rattle.machine.specs.State.{opened_state}
+use Rattle.run.proofs.opening.opened_state.Goals as goal
+
+pub returns : goal.returns
+unfolding opened_state
+returns c = λ values. c.begun_at.ensures ∙ rw c.row_count.ensures
