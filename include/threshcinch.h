@@ -81,8 +81,8 @@
  * WHAT MAY BE CALLED FROM SEVERAL THREADS AT ONCE
  * - threshcinch_chunk on the same state, graph and memory, as long as no two calls that run at once have the same chunk number. It reads
  *   nothing that another chunk of its stage writes and writes only its own rows, entries, partial and mark: proved in crates/threads for
- *   the definition of the work, which the code is proved to do (own-once, writes-own and reads-own; for a whole call call-writes-own and
- *   call-reads-own). What is not proved is which loads the compiled code makes; examples/c/threads.c is for valgrind's helgrind and drd,
+ *   the definition of the work, which the code is proved to do (own-once, writes_own and reads_own; for a whole call call_writes_own and
+ *   call_reads_own). What is not proved is which loads the compiled code makes; examples/c/threads.c is for valgrind's helgrind and drd,
  *   which found nothing in the library of the first landing (its threads did not yet change their rounding then).
  * - NOT beside chunk calls of the same run: threshcinch_close, threshcinch_open, threshcinch_spectral_embedding, or anything else that
  *   touches the lent memory. Join the chunk calls first.

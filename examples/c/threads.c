@@ -93,8 +93,8 @@ static threshcinch_graph ring(size_t rows) {
 /* ---- a run in several threads */
 
 /* All threads get the same state and the same lists. The laws of crates/threads (specs/Owned.antt) allow it: no place of a lent list
-   belongs to two chunks of a stage (own-once), a chunk call writes its own places and mark only (call-writes-own), and neither its answer
-   nor what it writes depends on another chunk's places (call-reads-own). They say so of the definition, which the code is proved to
+   belongs to two chunks of a stage (own-once), a chunk call writes its own places and mark only (call_writes_own), and neither its answer
+   nor what it writes depends on another chunk's places (call_reads_own). They say so of the definition, which the code is proved to
    compute. Which loads the compiled code makes they do not say, so this program is also run under helgrind and drd. */
 static void work(Worker *worker, size_t place) {
   Run *run = worker->run;

@@ -1,6 +1,6 @@
 //! A run driven to its end by several threads.
 //!
-//! Why this is allowed. The laws of crates/threads (`own-once`, `writes-own`, `reads-own`, and `call-writes-own` and `call-reads-own` for a
+//! Why this is allowed. The laws of crates/threads (`own-once`, `writes_own`, `reads_own`, and `call_writes_own` and `call_reads_own` for a
 //! whole call) show: no place of a lent list is written by two chunks of a stage, and whatever stands at the places that other chunks of
 //! the stage write, a chunk call answers the same and leaves the same at its own places. They rest on a sound state and on row starts that
 //! never fall. An accepted opening has shown both; for a loaded run `Run::load` has tested that the library takes the state, and that the

@@ -28,7 +28,7 @@ impl Stage {
                 return;
             }
             // SAFETY: each number is taken once in a stage, and nobody closes before every taker has finished. What chunks of one stage
-            // read none of them writes: `reads-own` and `writes-own` of crates/threads.
+            // read none of them writes: `reads_own` and `writes_own` of crates/threads.
             unsafe { lists.chunk(&*self.state.get(), number) };
         }
     }
