@@ -1,4 +1,6 @@
 // The one call: the test of the request once, then the whole run, chunks upward, through the held run's inner halves.
+#![tactic(auto)]
+
 ghost use Rattle.std.specs.Prelude.{◌≡◌, ℕ, ◌≤◌, ◌<◌, length};
 ghost use Rattle.definition.specs.Arith.{ieee64};
 ghost use Rattle.definition.specs.Memory.{fill_range};
