@@ -4,6 +4,8 @@
 // Standard input, for each case: a line `K RRRRR AAAAA` (the kind, and the lengths of the run file and of the answer, five digits each), the run
 // file, the answer. Kinds: `p`, promised to be equal; `b`, beyond what is promised, counted only; `w`, not run: both are written again only.
 // It ends where the input ends, or at a head that asks for more than there is.
+#![tactic(auto)]
+
 ghost use Rattle.std.specs.Prelude.{◌≡◌, ◌+◌, ◌≤◌, length};
 
 use digits::Written;

@@ -1,5 +1,7 @@
 // The text program: a run file on standard input, the seed with its counts on standard output, or a refusal. What it writes for the bytes that
 // it read is `text::answer`'s contract; no contract can say what the system reads or writes, so this file is only the way in and out.
+#![tactic(auto)]
+
 use digits::Written;
 use std::io;
 use std::io::Read;
