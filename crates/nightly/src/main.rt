@@ -1,5 +1,7 @@
 // The nightly map job: the seed of a stored graph at the parameters of `SpectralParams::new()`. Standard input is a run file, of which only the
 // dimensions and the graph are used; what is printed must be the stored map, bit for bit.
+#![tactic(auto)]
+
 ghost use Rattle.std.specs.Prelude.{◌≡◌, ◌≤◌, length};
 
 use input::SpectralParams;
