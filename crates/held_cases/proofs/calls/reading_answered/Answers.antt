@@ -1,4 +1,4 @@
-use Rattle.std.proofs.Common.{sym, length-take-le, rules}
+use Rattle.std.proofs.Common.{sym, length-take-le}
 use Rattle.held_cases.proofs.calls.reading_answered.Goals as goal
 
 pub slice_bounds-close-end-then-asking-eq-CLOSING-11 : goal.slice_bounds-close-end-then-asking-eq-CLOSING-11

@@ -1,5 +1,4 @@
 use Rattle.held_cases.proofs.Patterns.{no_nan}
-use Rattle.std.proofs.Common.{rules}
 use Rattle.held_cases.proofs.digest.bits_of.Goals as goal
 
 pub float_to_bits-result : goal.float_to_bits-result

@@ -1,4 +1,4 @@
-use Rattle.std.proofs.Common.{◌-◌, ◌≤◌, arith, rules}
+use Rattle.std.proofs.Common.{◌-◌, ◌≤◌}
 use Rattle.held_cases.proofs.digest.with_places.Given as goal
 
 abbrev pub invariant-loop-i : goal.invariant-loop-i

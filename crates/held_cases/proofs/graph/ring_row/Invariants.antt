@@ -1,4 +1,4 @@
-use Rattle.std.proofs.Common.{◌-◌, ◌≤◌, arith, rules}
+use Rattle.std.proofs.Common.{◌-◌, ◌≤◌}
 use Rattle.held_cases.proofs.graph.ring_row.Given as goal
 
 abbrev pub invariant-loop-e : goal.invariant-loop-e

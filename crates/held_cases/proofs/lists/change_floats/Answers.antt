@@ -1,4 +1,4 @@
-use Rattle.std.proofs.Common.{◌≡◌, ◌+◌, ◌-◌, ◌≤◌, length, arith, length-set, rules}
+use Rattle.std.proofs.Common.{arith, length-set}
 use Rattle.held_cases.proofs.lists.change_floats.Goals as goal
 
 pub bounds-list-half-in-loop-i : goal.bounds-list-half-in-loop-i

@@ -1,4 +1,4 @@
-use Rattle.std.proofs.Common.{◌≡◌, ◌-◌, ◌≤◌, length, arith, length-set, rules}
+use Rattle.std.proofs.Common.{arith, length-set}
 use Rattle.held_cases.proofs.lists.fill_columns.Goals as goal
 
 pub loop-i-preserved : goal.loop-i-preserved

@@ -1,4 +1,4 @@
-use Rattle.std.proofs.Common.{◌≡◌, ◌-◌, ◌≤◌, length, arith, length-set, rules}
+use Rattle.std.proofs.Common.{◌≡◌, ◌-◌, ◌≤◌, length}
 use Rattle.held_cases.proofs.lists.fill_marks.Given as goal
 
 abbrev pub invariant-loop-i : goal.invariant-loop-i

@@ -1,4 +1,4 @@
-use Rattle.std.proofs.Common.{sym, le_of_lt, length-take-le, rules}
+use Rattle.std.proofs.Common.{sym, le_of_lt, length-take-le}
 use Rattle.held_cases.proofs.lists.front_starts.Goals as goal
 
 pub slice_bounds-result-end : goal.slice_bounds-result-end
