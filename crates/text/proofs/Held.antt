@@ -1,12 +1,12 @@
 -- What the reader's record holds is the run file, and what is printed for it is its answer. Assumes nothing.
 use mathlib.Core.Path.{◌≡◌, refl, sym, ap, ap₂, ◌∙◌, subst}
 use mathlib.Core.Bool.{Bool, true, false, cond, false≢true}
-use mathlib.Core.List.{List, [], ◌∷◌, ◌++◌}
-use Prim.Native.Nat.{ℕ, zero, suc, ◌+◌, ◌-◌, ◌≤◌, ◌<◌}
+use mathlib.Core.List.{List}
+use Prim.Native.Nat.{ℕ, ◌-◌, ◌≤◌, ◌<◌}
 use native.Mathlib.Omega.{arith}
 use borrow.Author.Tests.{le-leb, lt-leb}
 use lib.Dec.{leb}
-use lib.Ieee.{Float, binary64, of_bits}
+use lib.Ieee.{Float}
 use lib.ListN.{length, take, replicate, length-replicate, length-append, length-take}
 use lib.Seq.{take-append_seam}
 use Rattle.definition.specs.Refusals.{Verdict, refused}
@@ -22,7 +22,7 @@ use Rattle.printing.specs.Answer as printing
 use Rattle.printing.specs.Answer.{test_answer}
 use Rattle.printing.proofs.Answers.{refusal_tests, refusal-says, answer_left}
 use Rattle.printing.proofs.Leaving.{same_text, put_count}
-use Rattle.reading.specs.Grammar.{RunNumbers, starts_most, entries_most, rounds_most}
+use Rattle.reading.specs.Grammar.{starts_most, entries_most, rounds_most}
 use Rattle.reading.specs.ReadRun.{Read, run, fault, read_run, record_of, floats_of, padded}
 use Rattle.reading.specs.declared.RunFile.{RunFile}
 use Rattle.reading.proofs.Runs.{run_sound}

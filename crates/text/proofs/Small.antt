@@ -2,7 +2,7 @@
 use mathlib.Core.Path.{◌≡◌, refl, sym, ap, ap₂, ◌∙◌, subst}
 use mathlib.Core.Bool.{Bool, true, false, cond}
 use mathlib.Core.List.{List, [], ◌∷◌, ◌++◌}
-use Prim.Native.Nat.{ℕ, zero, suc, ◌+◌, ◌-◌, ◌*◌, ◌/◌, ◌≤◌, ◌<◌}
+use Prim.Native.Nat.{ℕ, zero, suc, ◌+◌, ◌-◌, ◌*◌, ◌≤◌, ◌<◌}
 use native.Mathlib.Nat.{mul-le-mul}
 use native.Mathlib.Omega.{arith}
 use borrow.Author.Tests.{eqb-true, eqb-false, eq-eqb, ne_eqb, le-ltb}
@@ -12,7 +12,7 @@ use lib.ListN.{length, get_or}
 use Rattle.definition.specs.Arith.{ieee64}
 use Rattle.definition.specs.Memory.{wholes_of, place, block_of}
 use Rattle.definition.specs.Numbers.{Params, chunks, lent_sizes, lent_size, lent_count}
-use Rattle.definition.specs.Refusals.{Verdict, accepted, passes, given, first_from, or_else, test_dims, test_graph, test_params, test_lent, test_request}
+use Rattle.definition.specs.Refusals.{Verdict, accepted, passes, given, or_else, test_dims, test_graph, test_params, test_lent, test_request}
 use Rattle.definition.specs.SpectralEmbedding.{Counts}
 use Rattle.definition.proofs.First.{all_first}
 use Rattle.digits.specs.Placed.{put}

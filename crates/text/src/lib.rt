@@ -11,7 +11,6 @@ use input::SpectralParams;
 use reading::RunFile;
 use state::Counts;
 
-mod exports; // for C
 mod full; // reading until a list of bytes is full
 mod graph; // the answer for a graph
 

@@ -1,5 +1,5 @@
 -- Which refusal sizes meet, and what the sizes are then. Assumes nothing.
-use mathlib.Core.Path.{◌≡◌, refl, sym, ap, ◌∙◌}
+use mathlib.Core.Path.{◌≡◌, ap, ◌∙◌}
 use mathlib.Core.Bool.{Bool, true, false, cond, not, ◌||◌}
 use Prim.Native.Nat.{ℕ}
 use borrow.Author.Tests.{leb-true, ltb-false}

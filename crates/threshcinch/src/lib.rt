@@ -2,6 +2,8 @@
 // says in words what each contract says.
 //
 // A slice crosses as its address and its length, a record by value.
+#![tactic(auto)]
+
 ghost use Rattle.std.specs.Prelude.{◌≡◌, ◌||◌, ltb, replicate};
 ghost use Rattle.definition.specs.Arith.{ieee64};
 ghost use Rattle.definition.specs.Numbers.{chunks, defaults, dims_most, rows_most, entries_most, rounds_most, lent_count};

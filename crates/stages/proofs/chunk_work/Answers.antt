@@ -1,7 +1,9 @@
 -- Each arm is one stage's work in the whole lent memory.
 use mathlib.Core.Path.{◌≡◌, ap}
-use mathlib.Core.Logic.{⊎_elim, inl, inr}
+use mathlib.Core.Logic.{◌⊎◌, ⊎_elim, inl, inr}
 use Prim.Native.Nat.{ℕ}
+use native.Mathlib.Omega.{arith}
+use borrow.Author.Rules.{rules}
 use Rattle.definition.specs.Arith.{ieee64}
 use Rattle.machine.specs.State.{stage_of, Lists, State, Lent}
 use Rattle.machine.specs.Ranges.{reads_starts, reads_edges}
@@ -273,24 +275,27 @@ returns-in-19 c =
 pub returns-in_default : goal.returns-in_default
 returns-in_default c =
     let s = (goal.at.returns-in_default c).Start in
+    let not6 : (s.args.progress.stage ≡ 6) ⊎ (s.args.progress.stage ≡ 11) → ⊥ = search rules in
+    let not7 : (s.args.progress.stage ≡ 7) ⊎ (s.args.progress.stage ≡ 9) → ⊥ = search rules in
+    let not8 : (s.args.progress.stage ≡ 8) ⊎ (s.args.progress.stage ≡ 10) → ⊥ = search rules in
     idle_arm (parts s) (graph s) s.args.h (lent s)
     (none_of s.args.progress.stage
-    c.in_default.in_default-own.rest.0.0.0.0.0.0.0.0.0.0.0.0.0.0.0.1
-    c.in_default.in_default-own.rest.0.0.0.0.0.0.0.0.0.0.0.0.0.0.1
-    c.in_default.in_default-own.rest.0.0.0.0.0.0.0.0.0.0.0.0.0.1
-    c.in_default.in_default-own.rest.0.0.0.0.0.0.0.0.0.0.0.0.1
-    c.in_default.in_default-own.rest.0.0.0.0.0.0.0.0.0.0.0.1
-    (λ e. c.in_default.in_default-own.rest.0.0.0.0.0.0.0.0.0.0.1 (inl e))
-    (λ e. c.in_default.in_default-own.rest.0.0.0.0.0.0.0.0.0.1 (inl e))
-    (λ e. c.in_default.in_default-own.rest.0.0.0.0.0.0.0.0.1 (inl e))
-    (λ e. c.in_default.in_default-own.rest.0.0.0.0.0.0.0.0.0.1 (inr e))
-    (λ e. c.in_default.in_default-own.rest.0.0.0.0.0.0.0.0.1 (inr e))
-    (λ e. c.in_default.in_default-own.rest.0.0.0.0.0.0.0.0.0.0.1 (inr e))
-    c.in_default.in_default-own.rest.0.0.0.0.0.0.0.1
-    c.in_default.in_default-own.rest.0.0.0.0.0.0.1
-    c.in_default.in_default-own.rest.0.0.0.0.0.1
-    c.in_default.in_default-own.rest.0.0.0.0.1
-    c.in_default.in_default-own.rest.0.0.0.1
-    c.in_default.in_default-own.rest.0.0.1
-    c.in_default.in_default-own.rest.0.1
-    c.in_default.in_default-own.rest.1)
+    (λ e. omega arith)
+    (λ e. omega arith)
+    (λ e. omega arith)
+    (λ e. omega arith)
+    (λ e. omega arith)
+    (λ e. not6 (inl e))
+    (λ e. not7 (inl e))
+    (λ e. not8 (inl e))
+    (λ e. not7 (inr e))
+    (λ e. not8 (inr e))
+    (λ e. not6 (inr e))
+    (λ e. omega arith)
+    (λ e. omega arith)
+    (λ e. omega arith)
+    (λ e. omega arith)
+    (λ e. omega arith)
+    (λ e. omega arith)
+    (λ e. omega arith)
+    (λ e. omega arith))

@@ -1,6 +1,6 @@
 use mathlib.Core.Path.{sym, ◌∙◌}
 use Rattle.text.proofs.Held.{length_to, length_none}
-use Rattle.text.proofs.exports.text_answer.Goals as goal
+use Rattle.text_c.proofs.text_answer.Goals as goal
 
 pub returns-in-To : goal.returns-in-To
 returns-in-To c =
