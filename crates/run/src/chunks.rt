@@ -115,7 +115,8 @@ pub fn chunk(
         &marks[..],
         lengths,
     );
-    if verdict.number != 0 {
+    let is_refused = verdict.number != 0;
+    if is_refused {
         return Answer { verdict, state };
     }
     let asked = state.asked;

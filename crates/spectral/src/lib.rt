@@ -196,7 +196,8 @@ pub fn spectral_embedding(
         &ritz_record[..],
     );
     let verdict = opened.verdict;
-    if verdict.number != 0 {
+    let is_refused = verdict.number != 0;
+    if is_refused {
         let counts = Counts {
             passes: 0,
             refreshed: 0,

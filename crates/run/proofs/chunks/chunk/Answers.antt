@@ -17,16 +17,16 @@ found : (t : After-test_chunk-verdict) → let a = t.args in
     (lent_all a.inverse.now a.v0.now a.edge_columns.now a.edge_weights.now a.block0.now a.block1.now a.block2.now a.partials.now a.output.now a.ritz_record.now) a.marks.now
 found t = t.test_chunk-verdict.ensures _ refl refl
 
-pub returns-then-verdict-ne0 : goal.returns-then-verdict-ne0
-returns-then-verdict-ne0 c =
-    chunk-refused ieee64 _ _ _ _ _ (found (goal.at.returns-then-verdict-ne0 c).After-test_chunk-verdict) c.if-verdict-ne0.true
+pub returns-then-is_refused : goal.returns-then-is_refused
+returns-then-is_refused c =
+    chunk-refused ieee64 _ _ _ _ _ (found (goal.at.returns-then-is_refused c).After-test_chunk-verdict) c.if-is_refused.true
 
 pub work_chunk-requires : goal.work_chunk-requires
 work_chunk-requires c =
-    let R = chunk_ready ieee64 _ _ _ _ _ (zero-passes (found (goal.at.work_chunk-requires c).After-test_chunk-verdict) c.if-verdict-ne0.false) in
+    let R = chunk_ready ieee64 _ _ _ _ _ (zero-passes (found (goal.at.work_chunk-requires c).After-test_chunk-verdict) c.if-is_refused.false) in
     record { ready = parts_ready ieee64 (ready_beside ieee64 _ _ _ c.args.ritz_record.now _ R.0); h_in_bounds = R.4 }
 
 pub returns : goal.returns
 returns c =
-    chunk-taken ieee64 _ _ _ _ _ (found (goal.at.returns c).After-test_chunk-verdict) c.if-verdict-ne0.false
+    chunk-taken ieee64 _ _ _ _ _ (found (goal.at.returns c).After-test_chunk-verdict) c.if-is_refused.false
     c.work_chunk.ensures.output_after c.work_chunk.ensures.marks_after
