@@ -38,6 +38,7 @@ pub fn is_digit(b: u8) -> bool
 }
 
 // The digit that a lower-case hex byte stands for, or 16.
+#[tactic(auto, using(std::proofs::lemmas::Bool::Decides::nat_tests), unfolding(crate::specs::Digits::is_hex, crate::specs::Digits::is_digit, crate::specs::Digits::hex_value))]
 fn hex_value(b: u8) -> u64
     ensures { result ≡ cond (is_hex b) (hex_value b) 16 }
 {
