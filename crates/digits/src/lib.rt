@@ -105,6 +105,7 @@ fn number_up_to(bytes: &[u8], from: usize, end: usize, most: u64) -> Decimal
 }
 
 // The longest run of digits at `from`, if it has no leading zero and its number is at most `most`.
+#[tactic(auto, using(crate::proofs::Scans::case_empty, crate::proofs::Scans::case_leading, crate::proofs::Scans::case_zero, crate::proofs::Scans::case_number, crate::proofs::Scans::case_inside, crate::proofs::Scans::case_digit))]
 pub fn read_decimal(bytes: &[u8], from: usize, most: u64) -> Decimal
     ensures { result ≡ read_decimal bytes.now from most }
 {
