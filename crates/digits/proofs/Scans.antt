@@ -102,6 +102,28 @@ module _ (bytes : List ℕ) (from most end : ℕ) (place : end ≡ from + length
     run-number h =
         number (plain_of (digits_at bytes from) (omega arith) (λ e. absurd (h (sym (ap (λ (l : List ℕ). get_or l 0 0) first) ∙ e))))
 
+-- the same with the answer in front and the run's end written out, as `grind` applies them by name
+pub case_empty : (bytes : List ℕ) (from most : ℕ) → length (digits_at bytes from) ≡ 0 → read_decimal bytes from most ≡ D.Wrong
+case_empty bytes from most h = sym (run_empty bytes from most (from + length (digits_at bytes from)) refl (omega arith))
+
+pub case_leading : (bytes : List ℕ) (from most : ℕ) → get_or bytes from 0 ≡ 48 → 1 < length (digits_at bytes from)
+    → read_decimal bytes from most ≡ D.Wrong
+case_leading bytes from most z h = sym (run_leading bytes from most (from + length (digits_at bytes from)) refl (omega arith) z (omega arith))
+
+pub case_zero : (bytes : List ℕ) (from most : ℕ) → get_or bytes from 0 ≡ 48 → length (digits_at bytes from) ≡ 1
+    → read_decimal bytes from most ≡ D.Number 0 (from + length (digits_at bytes from))
+case_zero bytes from most z h = sym (run-zero bytes from most (from + length (digits_at bytes from)) refl (omega arith) z (omega arith))
+
+pub case_number : (bytes : List ℕ) (from most : ℕ) → (get_or bytes from 0 ≡ 48 → ⊥) → 0 < length (digits_at bytes from)
+    → read_decimal bytes from most ≡ up_to most (digits_at bytes from) from
+case_number bytes from most z h = sym (run-number bytes from most (from + length (digits_at bytes from)) refl (omega arith) z)
+
+pub case_inside : (bytes : List ℕ) (from : ℕ) → 0 < length (digits_at bytes from) → from + length (digits_at bytes from) ≤ length bytes
+case_inside bytes from h = run_inside bytes from 0 (from + length (digits_at bytes from)) refl (omega arith)
+
+pub case_digit : (bytes : List ℕ) (from : ℕ) → 0 < length (digits_at bytes from) → 48 ≤ get_or bytes from 0
+case_digit bytes from h = (digit_range (get_or bytes from 0) (at_more bytes from (omega (arith, case_inside bytes from h)) h)).0
+
 -- ---- 16 hex digits, read as far as k
 abbrev pub hex_left : List ℕ → ℕ → ℕ → List ℕ
 hex_left bytes from k = take (16 - k) (drop (from + k) bytes)

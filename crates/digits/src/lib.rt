@@ -38,6 +38,7 @@ pub fn is_digit(b: u8) -> bool
 }
 
 // The digit that a lower-case hex byte stands for, or 16.
+#[tactic(auto, using(std::proofs::lemmas::Bool::Decides::nat_tests), unfolding(crate::specs::Digits::is_hex, crate::specs::Digits::is_digit, crate::specs::Digits::hex_value))]
 fn hex_value(b: u8) -> u64
     ensures { result ≡ cond (is_hex b) (hex_value b) 16 }
 {
@@ -104,6 +105,7 @@ fn number_up_to(bytes: &[u8], from: usize, end: usize, most: u64) -> Decimal
 }
 
 // The longest run of digits at `from`, if it has no leading zero and its number is at most `most`.
+#[tactic(auto, using(crate::proofs::Scans::case_empty, crate::proofs::Scans::case_leading, crate::proofs::Scans::case_zero, crate::proofs::Scans::case_number, crate::proofs::Scans::case_inside, crate::proofs::Scans::case_digit))]
 pub fn read_decimal(bytes: &[u8], from: usize, most: u64) -> Decimal
     ensures { result ≡ read_decimal bytes.now from most }
 {

@@ -129,6 +129,7 @@ fn is_before(a: u64, b: u64, c: u64, d: u64) -> bool
 }
 
 // Whether one more entry of the m is to come, and this one is in the lower triangle of n rows.
+#[tactic(auto, using(std::proofs::lemmas::Bool::Decides::nat_tests), unfolding(market::specs::Market::inside))]
 fn is_inside(n: u64, m: u64, entries: usize, r: u64, c: u64) -> bool
     ensures { result ≡ inside n m entries r c }
 {
