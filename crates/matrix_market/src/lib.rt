@@ -61,6 +61,7 @@ fn repeat_line(text: &[u8], from: usize, first: u64, limit: u64, rising: bool) -
 }
 
 // What stands behind the size line.
+#[tactic(auto, using(crate::proofs::Bodies::tested_again, crate::proofs::Bodies::tested_wrong))]
 fn test_body(text: &[u8], from: usize, first: u64, n: u64, m: u64) -> Tested
     requires { Place text.now from first }
     ensures { Tests (body n m [] first (kinds_at text.now from)) text.now result }
