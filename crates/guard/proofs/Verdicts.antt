@@ -62,6 +62,9 @@ module _ (marks : List ℕ) (h : ℕ) (r : Bool) where
     unfolding or_else
     own-taken e q = simp (le-leb (get_or marks h 0) 1 p, e, eq-eqb (get_or marks h 0) 0 q)
 
+-- for `#[tactic(auto, using(..))]` on `test_own`
+pub ruleset own_laws = (own-mark, own-rows, own-done, own-taken)
+
 -- ---- closing
 module _ (s : State ieee64) (g : Lists ieee64) (m : Lent ieee64) (marks : List ℕ) where
   pub close_damaged : state_sound ieee64 s ≡ false → refused 16 0 ≡ test_close ieee64 s g m marks

@@ -24,7 +24,7 @@ fn refused(number: u64, place: usize) -> Verdict
 }
 
 // What is left to test of a chunk below C, once the lists are long enough: its mark and its rows, and that it is not done.
-#[tactic(auto, unfolding(definition::specs::Refusals::or_else))]
+#[tactic(auto, using(crate::proofs::Verdicts::own_laws))]
 fn test_own(
     stage: usize,
     a: Asked,
