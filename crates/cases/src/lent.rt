@@ -15,10 +15,8 @@ fn blank(i: usize) -> u8 {
 }
 
 pub fn fill(text: &mut [u8]) {
-    let mut i = 0;
-    while i < text.len() {
+    for i in 0..text.len() {
         text[i] = blank(i);
-        i += 1;
     }
 }
 
@@ -51,12 +49,10 @@ fn byte_due(i: usize, length: usize, whole: &[u8]) -> u8 {
 
 // Whether the first bytes are those of the whole text, and every byte behind them is as it was.
 fn stands(length: usize, whole: &[u8], text: &[u8]) -> bool {
-    let mut i = 0;
-    while i < text.len() {
+    for i in 0..text.len() {
         if text[i] != byte_due(i, length, whole) {
             return false;
         }
-        i += 1;
     }
     true
 }

@@ -54,12 +54,10 @@ fn is_same(x: &[u8], y: &[u8]) -> bool {
     if x.len() != y.len() {
         return false;
     }
-    let mut i = 0;
-    while i < x.len() {
+    for i in 0..x.len() {
         if lent::byte_at(x, i) != lent::byte_at(y, i) {
             return false;
         }
-        i += 1;
     }
     true
 }
@@ -130,13 +128,11 @@ fn case_at(all: &[u8], at: usize, t: &mut Tally) -> Case {
 
 fn try_cases(all: &[u8], t: &mut Tally) {
     let mut at = 0;
-    let mut turns: u64 = 0;
-    while turns < CASES_MOST {
+    for turns in 0..CASES_MOST {
         let Case::Done(next) = case_at(all, at, t) else {
             return;
         };
         at = next;
-        turns += 1;
     }
 }
 

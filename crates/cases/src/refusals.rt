@@ -75,12 +75,10 @@ fn try_run(run: Run, room: usize, t: &mut Tally) {
 }
 
 pub fn of_files(t: &mut Tally) {
-    let mut i = 0;
-    while i < RUNS {
+    for i in 0..RUNS {
         let run = run_at(i);
         try_run(run, lent::ROOM, t);
         try_run(run, 0, t);
-        i += 1;
     }
 }
 
@@ -146,12 +144,10 @@ fn refusal_printed(seed: Seed, t: &mut Tally) {
 }
 
 pub fn of_answers(t: &mut Tally) {
-    let mut i = 0;
-    while i < SEEDS {
+    for i in 0..SEEDS {
         let seed = seed_at(i);
         try_seed(seed, lent::ROOM, t);
         try_seed(seed, 0, t);
         refusal_printed(seed, t);
-        i += 1;
     }
 }

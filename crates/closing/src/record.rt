@@ -30,10 +30,8 @@ pub fn record_round(
 {
     let first = round * (k + 1);
     ritz_record[first] = bound;
-    let mut j = 0;
-    while j < k {
+    for j in 0..k {
         let p = order[j];
         ritz_record[first + 1 + j] = ritz_value(matrix, k, p);
-        j += 1;
     }
 }

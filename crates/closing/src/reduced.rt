@@ -39,10 +39,8 @@ pub fn column_scales(asked: Asked, partials: &[f64]) -> [f64; 225]
     let target = asked.seed_std;
     let mut scales = [0.0; 225];
     stage_totals(asked, dims, partials, &mut scales);
-    let mut c = 0;
-    while c < dims {
+    for c in 0..dims {
         scales[c] = columns::output::column_scale(rows, target, scales[c]);
-        c += 1;
     }
     scales
 }

@@ -20,10 +20,8 @@ fn row_delta(c: usize, dots: &[f64; 225], own: f64, row: &[f64]) -> f64
     ensures { result ≡ delta ieee64 (vector_of nan dots.now) own (vector_of nan row.now) c }
 {
     let mut sum = dots[c] * own;
-    let mut p = 0;
-    while p < c {
+    for p in 0..c {
         sum = sum + dots[p] * row[p];
-        p += 1;
     }
     sum
 }
@@ -44,13 +42,11 @@ pub fn subtract_rows(
         (number_at rows k (subtracted ieee64 (vector_of nan dots.now) (shifted first (vector_of nan v0.now)) (block_of nan rows k part.old) c))
         part.old }
 {
-    let mut r = 0;
-    while r < rows {
+    for r in 0..rows {
         let at = r * k;
         let e = at + c;
         let taken = row_delta(c, dots, v0[first + r], &part[at..e]);
         part[e] = part[e] - taken;
-        r += 1;
     }
 }
 
@@ -83,11 +79,9 @@ pub fn divide_rows(k: usize, c: usize, norm: f64, rows: usize, part: &mut [f64])
         (number_at rows k (with_column ieee64 (block_of nan rows k part.old) c (λ r. ieee64.div (block_of nan rows k part.old r c) norm)))
         part.old }
 {
-    let mut r = 0;
-    while r < rows {
+    for r in 0..rows {
         let at = r * k + c;
         part[at] = part[at] / norm;
-        r += 1;
     }
 }
 
@@ -138,12 +132,10 @@ pub fn refresh_rows(
         (number_at rows k (with_column ieee64 (block_of nan rows k part.old) c (λ r. ieee64.start (fresh_index n k round c (first + r)))))
         part.old }
 {
-    let mut r = 0;
-    while r < rows {
+    for r in 0..rows {
         let at = r * k + c;
         let index = fresh_index(n, k, round, c, first + r);
         part[at] = numbers::splitmix_unit(index);
-        r += 1;
     }
 }
 
@@ -175,11 +167,9 @@ pub fn zero_rows(k: usize, c: usize, rows: usize, part: &mut [f64])
         (number_at rows k (with_column ieee64 (block_of nan rows k part.old) c (λ r. ieee64.zero)))
         part.old }
 {
-    let mut r = 0;
-    while r < rows {
+    for r in 0..rows {
         let at = r * k + c;
         part[at] = 0.0;
-        r += 1;
     }
 }
 

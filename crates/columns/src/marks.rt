@@ -17,10 +17,8 @@ pub fn clear_marks(marks: &mut [u8], c: usize)
     requires { c ≤ length marks.old }
     ensures { marks.new ≡ fill_range 0 c (λ h. 0) marks.old }
 {
-    let mut h = 0;
-    while h < c {
+    for h in 0..c {
         marks[h] = 0;
-        h += 1;
     }
 }
 
@@ -29,12 +27,10 @@ pub fn first_undone(marks: &[u8], c: usize) -> usize
     requires { c ≤ length marks.now }
     ensures { result ≡ first_from (undone marks.now) 0 c }
 {
-    let mut h = 0;
-    while h < c {
+    for h in 0..c {
         if marks[h] == 0 {
             return h;
         }
-        h += 1;
     }
     c
 }
@@ -44,12 +40,10 @@ pub fn marks_sound(marks: &[u8], c: usize) -> bool
     requires { c ≤ length marks.now }
     ensures { result ≡ sound marks.now c }
 {
-    let mut h = 0;
-    while h < c {
+    for h in 0..c {
         if 1 < marks[h] {
             return false;
         }
-        h += 1;
     }
     true
 }

@@ -17,10 +17,8 @@ fn turned_number(k: usize, row: &[f64], vectors: &[f64; 225], q: usize) -> f64
     ensures { result ≡ sum_up ieee64 (λ p. ieee64.mul (vector_of nan row.now p) (block_of nan k k vectors.now p q)) 0 k }
 {
     let mut sum = 0.0;
-    let mut p = 0;
-    while p < k {
+    for p in 0..k {
         sum = sum + row[p] * vectors[p * k + q];
-        p += 1;
     }
     sum
 }
@@ -43,10 +41,8 @@ fn rotate_row(
         (λ p. ieee64.mul (rotated ieee64 k (λ r. vector_of nan row.now) (block_of nan k k vectors.now) order.now 0 (p - at)) weight)
         part.old }
 {
-    let mut j = 0;
-    while j < d {
+    for j in 0..d {
         part[at + j] = turned_number(k, row, vectors, order[j]) * weight;
-        j += 1;
     }
 }
 
@@ -70,13 +66,11 @@ pub fn rotate_rows(
         (rotated ieee64 k (block_of nan n k v.now) (block_of nan k k vectors.now) order.now))))
         part.old }
 {
-    let mut r = 0;
-    while r < rows {
+    for r in 0..rows {
         let i = first + r;
         let a = i * k;
         let e = a + k;
         rotate_row(k, d, &v[a..e], vectors, order, inverse[i], r * d, part);
-        r += 1;
     }
 }
 
@@ -124,10 +118,8 @@ fn column_means(n: usize, d: usize, sums: &[f64; 225]) -> [f64; 7]
 {
     let count = n as f64;
     let mut means = [0.0; 7];
-    let mut j = 0;
-    while j < d {
+    for j in 0..d {
         means[j] = sums[j] / count;
-        j += 1;
     }
     means
 }
@@ -139,11 +131,9 @@ fn centre_row(d: usize, means: &[f64; 7], at: usize, part: &mut [f64])
         (λ p. ieee64.sub (vector_of nan part.old p) (vector_of nan means.now (p - at)))
         part.old }
 {
-    let mut j = 0;
-    while j < d {
+    for j in 0..d {
         let p = at + j;
         part[p] = part[p] - means[j];
-        j += 1;
     }
 }
 
@@ -154,10 +144,8 @@ pub fn centre_rows(d: usize, means: &[f64; 7], rows: usize, part: &mut [f64])
         (number_at rows d (λ r j. ieee64.sub (block_of nan rows d part.old r j) (vector_of nan means.now j)))
         part.old }
 {
-    let mut r = 0;
-    while r < rows {
+    for r in 0..rows {
         centre_row(d, means, r * d, part);
-        r += 1;
     }
 }
 
@@ -189,11 +177,9 @@ fn scale_row(d: usize, scales: &[f64; 225], at: usize, part: &mut [f64])
         (λ p. ieee64.mul (vector_of nan part.old p) (vector_of nan scales.now (p - at)))
         part.old }
 {
-    let mut j = 0;
-    while j < d {
+    for j in 0..d {
         let p = at + j;
         part[p] = part[p] * scales[j];
-        j += 1;
     }
 }
 
@@ -204,10 +190,8 @@ pub fn scale_rows(d: usize, scales: &[f64; 225], rows: usize, part: &mut [f64])
         (number_at rows d (scaled ieee64 (vector_of nan scales.now) (block_of nan rows d part.old)))
         part.old }
 {
-    let mut r = 0;
-    while r < rows {
+    for r in 0..rows {
         scale_row(d, scales, r * d, part);
-        r += 1;
     }
 }
 

@@ -86,8 +86,7 @@ fn number_up_to(bytes: &[u8], from: usize, end: usize, most: u64) -> Decimal
     ensures { result ≡ up_to most (digits_at bytes.now from) from }
 {
     let mut value: u64 = 0;
-    let mut i = from;
-    while i < end {
+    for i in from..end {
         let digit = (bytes[i] - b'0') as u64;
         if most < digit {
             return Decimal::Wrong;
@@ -96,7 +95,6 @@ fn number_up_to(bytes: &[u8], from: usize, end: usize, most: u64) -> Decimal
             return Decimal::Wrong;
         }
         value = value * 10 + digit;
-        i += 1;
     }
     Decimal::Number {
         value: value,
@@ -132,14 +130,12 @@ fn hex_bits(bytes: &[u8], from: usize) -> Hex
     ensures { result ≡ read_hex bytes.now from }
 {
     let mut value: u64 = 0;
-    let mut k = 0;
-    while k < 16 {
+    for k in 0..16 {
         let digit = hex_value(bytes[from + k]);
         if 15 < digit {
             return Hex::Wrong;
         }
         value = value * 16 + digit;
-        k += 1;
     }
     Hex::Bits {
         value: value,

@@ -92,12 +92,10 @@ fn order_sound(a: Asked, order: [usize; 15]) -> bool
     ensures { result ≡ order_sound (asked_in a) order }
 {
     let k = a.dims + SpectralParams::OVERSAMPLING;
-    let mut j = 0;
-    while j < 15 {
+    for j in 0..15 {
         if k <= order[j] {
             return false;
         }
-        j += 1;
     }
     true
 }

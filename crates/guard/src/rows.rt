@@ -22,12 +22,10 @@ pub fn starts_sound(a: Asked, h: usize, starts: &[u64]) -> bool
     let n = a.rows;
     let entries = a.entries as u64;
     let end = input::end_row(n, h);
-    let mut i = input::first_row(n, h);
-    while i < end {
+    for i in input::first_row(n, h)..end {
         if starts[i + 1] < starts[i] {
             return false;
         }
-        i += 1;
     }
     starts[end] <= entries
 }
@@ -56,10 +54,8 @@ pub fn columns_sound(a: Asked, h: usize, starts: &[u64], columns: &[u32]) -> boo
     let end = starts[end_row] as usize;
     let last = (n - 1) as u32;
     let mut found = false;
-    let mut p = starts[first_row] as usize;
-    while p < end {
+    for p in starts[first_row] as usize..end {
         found = or_past(found, columns[p], last);
-        p += 1;
     }
     !found
 }

@@ -24,21 +24,17 @@ fn with_byte(digest: u64, byte: u64) -> u64 {
 fn with_bytes(digest: u64, bits: u64) -> u64 {
     let mut d = digest;
     let mut rest = bits;
-    let mut i: usize = 0;
-    while i < 8 {
+    for i in 0usize..8 {
         d = with_byte(d, rest % 256);
         rest = rest >> 8;
-        i += 1;
     }
     d
 }
 
 fn of_numbers(seed: &[f64]) -> u64 {
     let mut d = EMPTY;
-    let mut i = 0;
-    while i < seed.len() {
+    for i in 0..seed.len() {
         d = with_bytes(d, bits_of(seed[i]));
-        i += 1;
     }
     d
 }
@@ -57,10 +53,8 @@ pub fn with_number(digest: u64, bits: u64) -> u64 {
 
 pub fn with_floats(digest: u64, list: &[f64]) -> u64 {
     let mut d = digest;
-    let mut i = 0;
-    while i < list.len() {
+    for i in 0..list.len() {
         d = with_number(d, bits_of(list[i]));
-        i += 1;
     }
     d
 }
@@ -71,10 +65,8 @@ fn wide_column(column: u32) -> u64 {
 
 pub fn with_columns(digest: u64, list: &[u32]) -> u64 {
     let mut d = digest;
-    let mut i = 0;
-    while i < list.len() {
+    for i in 0..list.len() {
         d = with_number(d, wide_column(list[i]));
-        i += 1;
     }
     d
 }
@@ -85,20 +77,16 @@ fn wide_mark(mark: u8) -> u64 {
 
 pub fn with_marks(digest: u64, list: &[u8]) -> u64 {
     let mut d = digest;
-    let mut i = 0;
-    while i < list.len() {
+    for i in 0..list.len() {
         d = with_number(d, wide_mark(list[i]));
-        i += 1;
     }
     d
 }
 
 fn with_places(digest: u64, list: &[usize; 15]) -> u64 {
     let mut d = digest;
-    let mut i = 0;
-    while i < 15 {
+    for i in 0..15 {
         d = with_number(d, list[i] as u64);
-        i += 1;
     }
     d
 }

@@ -65,10 +65,8 @@ fn ring_row(
     values: &mut Values,
 ) -> usize {
     let mut at = first;
-    let mut e = 0;
-    while e < 8 {
+    for e in 0..8 {
         at = put_entry(number, i, ring_column(n, i, e), at, columns, values);
-        e += 1;
     }
     at
 }
@@ -141,11 +139,9 @@ fn put_graph(
     values: &mut Values,
 ) -> usize {
     let mut at = 0;
-    let mut i = 0;
-    while i < n {
+    for i in 0..n {
         put_start(starts, i, at);
         at = put_row(number, n, i, at, columns, values);
-        i += 1;
     }
     put_start(starts, n, at);
     at

@@ -98,26 +98,20 @@ pub fn at_most(count: usize, length: usize) -> usize
 // ---- fills
 
 pub fn fill_floats(list: &mut [f64], x: f64) {
-    let mut i = 0;
-    while i < list.len() {
+    for i in 0..list.len() {
         list[i] = x;
-        i += 1;
     }
 }
 
 pub fn fill_columns(list: &mut [u32], x: u32) {
-    let mut i = 0;
-    while i < list.len() {
+    for i in 0..list.len() {
         list[i] = x;
-        i += 1;
     }
 }
 
 pub fn fill_marks(list: &mut [u8], x: u8) {
-    let mut i = 0;
-    while i < list.len() {
+    for i in 0..list.len() {
         list[i] = x;
-        i += 1;
     }
 }
 
@@ -126,43 +120,37 @@ pub fn fill_marks(list: &mut [u8], x: u8) {
 
 pub fn change_floats(list: &mut [f64], count: usize) {
     let half = list.len() / 2;
-    let mut i = 0;
-    while i < count {
+    for i in 0..count {
         if half <= i {
             return;
         }
         let x = list[i];
         list[i] = list[half + i];
         list[half + i] = x;
-        i += 1;
     }
 }
 
 pub fn change_columns(list: &mut [u32], count: usize) {
     let half = list.len() / 2;
-    let mut i = 0;
-    while i < count {
+    for i in 0..count {
         if half <= i {
             return;
         }
         let x = list[i];
         list[i] = list[half + i];
         list[half + i] = x;
-        i += 1;
     }
 }
 
 pub fn change_marks(list: &mut [u8], count: usize) {
     let half = list.len() / 2;
-    let mut i = 0;
-    while i < count {
+    for i in 0..count {
         if half <= i {
             return;
         }
         let x = list[i];
         list[i] = list[half + i];
         list[half + i] = x;
-        i += 1;
     }
 }
 

@@ -121,12 +121,10 @@ fn is_lent(x: f64) -> bool {
 // Every number of the first `finished` is written, and none behind them. A run does not write the number that lists are filled with: a
 // bound is below 1, and no Ritz value of these graphs is far above it.
 fn is_so_far(list: &[f64], finished: usize) -> bool {
-    let mut i = 0;
-    while i < list.len() {
+    for i in 0..list.len() {
         if is_lent(list[i]) == (i < finished) {
             return false;
         }
-        i += 1;
     }
     true
 }

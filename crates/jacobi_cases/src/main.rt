@@ -20,10 +20,8 @@ fn digit(c: u8) -> u64 {
 
 fn number_of(line: &[u8; 17]) -> u64 {
     let mut bits: u64 = 0;
-    let mut i = 0;
-    while i < 16 {
+    for i in 0..16 {
         bits = bits << 4 | digit(line[i]);
-        i += 1;
     }
     bits
 }
@@ -60,10 +58,8 @@ fn read_matrix(input: &mut impl Read, count: usize) -> [f64; 225]
     requires { count ≤ 225 }
 {
     let mut m = [0.0; 225];
-    let mut i = 0;
-    while i < count {
+    for i in 0..count {
         m[i] = value_of(next_number(input));
-        i += 1;
     }
     m
 }
@@ -127,8 +123,7 @@ fn count_cases(input: &mut impl Read) -> Tally {
         matrices: 0,
         same: 0,
     };
-    let mut turns: u64 = 0;
-    while turns < 4096 {
+    for turns in 0u64..4096 {
         let k = next_number(input);
         if k < 9 {
             return t;
@@ -137,7 +132,6 @@ fn count_cases(input: &mut impl Read) -> Tally {
             return t;
         }
         t = counted(t, is_case_same(input, k as usize));
-        turns += 1;
     }
     t
 }

@@ -190,12 +190,10 @@ fn begins_comment(line: &[u8]) -> bool
 fn holds_return(line: &[u8]) -> bool
     ensures { result ≡ holds 13 line.now }
 {
-    let mut i = 0;
-    while i < line.len() {
+    for i in 0..line.len() {
         if line[i] == b'\r' {
             return true;
         }
-        i += 1;
     }
     false
 }
@@ -374,12 +372,10 @@ fn same_word(small: &[u8], word: &[u8], exact: bool) -> bool
     if small.len() != word.len() {
         return false;
     }
-    let mut i = 0;
-    while i < small.len() {
+    for i in 0..small.len() {
         if !same_byte(small[i], word[i], exact) {
             return false;
         }
-        i += 1;
     }
     true
 }

@@ -156,10 +156,8 @@ fn fill_ones(count: usize, values: &mut [f64])
     requires { count ≤ length values.old }
     ensures { values.new ≡ fill_range 0 count (λ p. one) values.old }
 {
-    let mut i = 0;
-    while i < count {
+    for i in 0..count {
         values[i] = 1.0;
-        i += 1;
     }
 }
 

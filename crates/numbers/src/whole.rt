@@ -18,8 +18,7 @@ fn first_digits(a: u64) -> Whole
     let mut bits = a;
     let mut q: u64 = 0;
     let mut r: u64 = 0;
-    let mut i: u64 = 0;
-    while i < 7 {
+    for i in 0u64..7 {
         let t = r * 4 + bits / 0x10_0000_0000_0000;
         let s = q * 4 + 1;
         bits = bits % 0x10_0000_0000_0000 * 4;
@@ -31,7 +30,6 @@ fn first_digits(a: u64) -> Whole
         }
         r = t - less;
         q = q * 2 + digit;
-        i += 1;
     }
     Whole { root: q, rest: r }
 }

@@ -101,10 +101,8 @@ fn put_numbers(seed: &[f64], from: usize, d: usize, out: &mut [u8], at: usize) -
         × (out.new ≡ put (numbers_text (λ c. get_or seed.now (from + c) nan) d) at out.old) }
 {
     let mut next = at;
-    let mut c = 0;
-    while c < d {
+    for c in 0..d {
         next = put_number(c, seed[from + c], out, next);
-        c += 1;
     }
     next
 }
@@ -127,10 +125,8 @@ fn put_rows(n: usize, d: usize, seed: &[f64], out: &mut [u8], at: usize) -> usiz
         × (out.new ≡ put (rows_text (λ i c. get_or seed.now (i * d + c) nan) d n) at out.old) }
 {
     let mut next = at;
-    let mut i = 0;
-    while i < n {
+    for i in 0..n {
         next = put_row(i, d, seed, out, next);
-        i += 1;
     }
     next
 }

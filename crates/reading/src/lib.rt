@@ -88,12 +88,10 @@ fn stands_at(name: &[u8], bytes: &[u8], at: usize) -> bool
     requires { at + length name.now ≤ largest64 }
     ensures { result ≡ stands_at name.now bytes.now at }
 {
-    let mut i = 0;
-    while i < name.len() {
+    for i in 0..name.len() {
         if byte_at(bytes, at + i) != name[i] {
             return false;
         }
-        i += 1;
     }
     true
 }
@@ -217,10 +215,8 @@ fn columns_of(numbers: [u64; 1024]) -> [u32; 1024]
     ensures { result ≡ numbers }
 {
     let mut columns = [0u32; 1024];
-    let mut i = 0;
-    while i < 1024 {
+    for i in 0..1024 {
         columns[i] = numbers[i] as u32;
-        i += 1;
     }
     columns
 }
@@ -229,10 +225,8 @@ fn values_of(bits: [u64; 1024]) -> [f64; 1024]
     ensures { result ≡ floats_of bits }
 {
     let mut values = [0.0; 1024];
-    let mut i = 0;
-    while i < 1024 {
+    for i in 0..1024 {
         values[i] = value_of(bits[i]);
-        i += 1;
     }
     values
 }

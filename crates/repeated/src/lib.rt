@@ -65,10 +65,8 @@ fn clear(links: &mut [u16], heads: &mut [u16])
     ensures { Clears links.new heads.new }
 {
     links[0] = 0;
-    let mut h = 0;
-    while h < PLACES {
+    for h in 0..PLACES {
         heads[h] = 0;
-        h += 1;
     }
 }
 

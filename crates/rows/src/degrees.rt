@@ -12,10 +12,8 @@ fn sum_values(values: &[f64], a: usize, e: usize) -> f64
     ensures { result ≡ sum_up ieee64 (vector_of ieee64.none values.now) a e }
 {
     let mut sum = 0.0;
-    let mut i = a;
-    while i < e {
+    for i in a..e {
         sum = sum + values[i];
-        i += 1;
     }
     sum
 }
@@ -29,15 +27,13 @@ fn degrees_rows(first: usize, starts: &[u64], values: &[f64], inverse: &mut [f64
     ensures v0_after { v0.new ≡ fill_range 0 (length v0.old)
         (λ i. degree_root ieee64 (wholes_of starts.now) (vector_of ieee64.none values.now) (first + i)) v0.old }
 {
-    let mut i = 0;
-    while i < inverse.len() {
+    for i in 0..inverse.len() {
         let row = first + i;
         let a = starts[row] as usize;
         let e = starts[row + 1] as usize;
         let root = numbers::root(sum_values(values, a, e));
         inverse[i] = numbers::inverse_of(root);
         v0[i] = root;
-        i += 1;
     }
 }
 
@@ -72,10 +68,8 @@ fn v0_rows(norm: f64, v0: &mut [f64])
     ensures { v0.new ≡ fill_range 0 (length v0.old)
         (λ i. v0_of ieee64 norm (vector_of ieee64.none v0.old i)) v0.old }
 {
-    let mut i = 0;
-    while i < v0.len() {
+    for i in 0..v0.len() {
         v0[i] = numbers::v0_of(norm, v0[i]);
-        i += 1;
     }
 }
 

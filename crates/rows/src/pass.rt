@@ -18,10 +18,8 @@ fn add_entry(acc: &mut [f64; 15], k: usize, weight: f64, v: &[f64], from: usize)
         (λ c. ieee64.add (vector_of ieee64.none acc.old c) (ieee64.mul weight (vector_of ieee64.none v.now (from + c))))
         acc.old }
 {
-    let mut c = 0;
-    while c < k {
+    for c in 0..k {
         acc[c] = acc[c] + weight * v[from + c];
-        c += 1;
     }
 }
 
@@ -33,11 +31,9 @@ fn gather_entries(n: usize, k: usize, columns: &[u32], weights: &[f64], v: &[f64
         (replicate 15 ieee64.zero) }
 {
     let mut acc = [0.0; 15];
-    let mut p = 0;
-    while p < columns.len() {
+    for p in 0..columns.len() {
         let row = columns[p] as usize;
         add_entry(&mut acc, k, weights[p], v, row * k);
-        p += 1;
     }
     acc
 }
@@ -88,12 +84,10 @@ fn mix_row(
         (replicate 15 ieee64.zero) }
 {
     let mut mixed = [0.0; 15];
-    let mut c = 0;
-    while c < k {
+    for c in 0..k {
         let x = v[from + c];
         let mv = 0.5 * (x + inverse * acc[c]);
         mixed[c] = by.of_mv * mv + by.of_v * x + by.of_prev * prev[from + c];
-        c += 1;
     }
     mixed
 }
@@ -103,10 +97,8 @@ fn put_row(k: usize, row: &[f64; 15], to: usize, out: &mut [f64])
     requires { (k ≤ 15) × (to + k ≤ length out.old) }
     ensures { out.new ≡ fill_range to (to + k) (λ p. vector_of ieee64.none row.now (p - to)) out.old }
 {
-    let mut c = 0;
-    while c < k {
+    for c in 0..k {
         out[to + c] = row[c];
-        c += 1;
     }
 }
 
@@ -133,15 +125,13 @@ fn combine_rows(
         out.old }
 {
     let rows = end - first;
-    let mut r = 0;
-    while r < rows {
+    for r in 0..rows {
         let i = first + r;
         let a = starts[i] as usize;
         let e = starts[i + 1] as usize;
         let acc = gather(n, k, a, e, columns, weights, v);
         let row = mix_row(k, by, inverse[i], &acc, i * k, v, prev);
         put_row(k, &row, r * k, out);
-        r += 1;
     }
 }
 

@@ -10,10 +10,8 @@ fn start_block_rows(from: usize, rows: &mut [f64])
     requires { from + length rows.old < 2 ^ 64 }
     ensures { rows.new ≡ fill_range 0 (length rows.old) (λ p. ieee64.start (from + p)) rows.old }
 {
-    let mut p = 0;
-    while p < rows.len() {
+    for p in 0..rows.len() {
         rows[p] = numbers::splitmix_unit((from + p) as u64);
-        p += 1;
     }
 }
 

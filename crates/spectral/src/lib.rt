@@ -55,8 +55,7 @@ fn all_chunks(
     let asked = state.asked;
     let progress = state.progress;
     let chunks = input::chunk_count(asked.rows);
-    let mut h = 0;
-    while h < chunks {
+    for h in 0..chunks {
         run::work_chunk(
             asked,
             progress,
@@ -78,7 +77,6 @@ fn all_chunks(
             marks,
             output,
         );
-        h += 1;
     }
 }
 

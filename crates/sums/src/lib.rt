@@ -145,10 +145,8 @@ pub fn isolated_rows(n: usize, v0: &[f64]) -> usize
     ensures { result ≡ isolated_rows ieee64 n (vector_of ieee64.none v0.now) }
 {
     let mut count = 0;
-    let mut i = 0;
-    while i < n {
+    for i in 0..n {
         count += row::isolated(v0[i]);
-        i += 1;
     }
     count
 }

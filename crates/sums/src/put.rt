@@ -8,10 +8,8 @@ fn put_part(sums: &[f64; 225], part: &mut [f64])
     requires { length part.old ≤ 225 }
     ensures { part.new ≡ fill_range 0 (length part.old) (vector_of ieee64.none sums.now) part.old }
 {
-    let mut q = 0;
-    while q < part.len() {
+    for q in 0..part.len() {
         part[q] = sums[q];
-        q += 1;
     }
 }
 

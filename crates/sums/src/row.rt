@@ -18,10 +18,8 @@ pub fn add_numbers(acc: &mut [f64; 225], width: usize, list: &[f64], from: usize
     requires { (width ≤ 225) × (from + width ≤ length list.now) }
     ensures { acc.new ≡ raised ieee64 0 width (λ q. vector_of ieee64.none list.now (from + q)) acc.old }
 {
-    let mut q = 0;
-    while q < width {
+    for q in 0..width {
         acc[q] = acc[q] + list[from + q];
-        q += 1;
     }
 }
 
@@ -30,11 +28,9 @@ pub fn add_squares(acc: &mut [f64; 225], width: usize, list: &[f64], from: usize
     requires { (width ≤ 225) × (from + width ≤ length list.now) }
     ensures { acc.new ≡ raised ieee64 0 width (λ q. square ieee64 (vector_of ieee64.none list.now (from + q))) acc.old }
 {
-    let mut q = 0;
-    while q < width {
+    for q in 0..width {
         let x = list[from + q];
         acc[q] = acc[q] + x * x;
-        q += 1;
     }
 }
 
@@ -44,10 +40,8 @@ pub fn add_times(acc: &mut [f64; 225], at: usize, width: usize, x: f64, list: &[
     ensures { acc.new
         ≡ raised ieee64 at (at + width) (λ q. ieee64.mul x (vector_of ieee64.none list.now (from + (q - at)))) acc.old }
 {
-    let mut q = 0;
-    while q < width {
+    for q in 0..width {
         acc[at + q] = acc[at + q] + x * list[from + q];
-        q += 1;
     }
 }
 
@@ -59,10 +53,8 @@ pub fn add_dots(acc: &mut [f64; 225], c: usize, x0: f64, v: &[f64], from: usize)
         acc.old }
 {
     let x = v[from + c];
-    let mut p = 0;
-    while p < c {
+    for p in 0..c {
         acc[p] = acc[p] + v[from + p] * x;
-        p += 1;
     }
     acc[c] = acc[c] + x0 * x;
 }
@@ -74,9 +66,7 @@ pub fn add_products(acc: &mut [f64; 225], k: usize, v: &[f64], w: &[f64], from: 
         (λ q. ieee64.mul (vector_of ieee64.none v.now (from + row_at k k q)) (vector_of ieee64.none w.now (from + column_at k k q)))
         acc.old }
 {
-    let mut p = 0;
-    while p < k {
+    for p in 0..k {
         add_times(acc, p * k, k, v[from + p], w, from);
-        p += 1;
     }
 }

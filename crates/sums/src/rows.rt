@@ -15,11 +15,9 @@ pub fn square_sum(stride: usize, c: usize, first: usize, end: usize, list: &[f64
     ensures { result ≡ sum_up ieee64 (λ i. square ieee64 (vector_of ieee64.none list.now (i * stride + c))) first end }
 {
     let mut acc = 0.0;
-    let mut i = first;
-    while i < end {
+    for i in first..end {
         let x = list[i * stride + c];
         acc = acc + x * x;
-        i += 1;
     }
     acc
 }
@@ -38,10 +36,8 @@ pub fn numbers(
 {
     let zeros = [0.0; 225];
     *acc = zeros;
-    let mut i = first;
-    while i < end {
+    for i in first..end {
         row::add_numbers(acc, width, list, i * stride);
-        i += 1;
     }
 }
 
@@ -51,10 +47,8 @@ pub fn squares(stride: usize, width: usize, first: usize, end: usize, list: &[f6
     ensures { result ≡ summed ieee64 width (λ q i. square ieee64 (vector_of ieee64.none list.now (i * stride + q))) first end }
 {
     let mut acc = [0.0; 225];
-    let mut i = first;
-    while i < end {
+    for i in first..end {
         row::add_squares(&mut acc, width, list, i * stride);
-        i += 1;
     }
     acc
 }
@@ -75,10 +69,8 @@ pub fn dots(
         (dot_term ieee64 (vector_of ieee64.none v0.now) (block_of ieee64.none n k v.now) c) first end }
 {
     let mut acc = [0.0; 225];
-    let mut i = first;
-    while i < end {
+    for i in first..end {
         row::add_dots(&mut acc, c, v0[i], v, i * k);
-        i += 1;
     }
     acc
 }
@@ -90,10 +82,8 @@ pub fn products(n: usize, k: usize, first: usize, end: usize, v: &[f64], w: &[f6
     ensures { result ≡ summed ieee64 (k * k) (product_term ieee64 k (block_of ieee64.none n k v.now) (block_of ieee64.none n k w.now)) first end }
 {
     let mut acc = [0.0; 225];
-    let mut i = first;
-    while i < end {
+    for i in first..end {
         row::add_products(&mut acc, k, v, w, i * k);
-        i += 1;
     }
     acc
 }

@@ -45,10 +45,8 @@ fn put_numbers(in_hex: bool, numbers: &[u64], out: &mut [u8], at: usize) -> usiz
     ensures { Puts (joined (line_named [] in_hex) numbers.now) at out.old result out.new }
 {
     let mut next = at;
-    let mut i = 0;
-    while i < numbers.len() {
+    for i in 0..numbers.len() {
         next = put_item(i, in_hex, numbers[i], out, next);
-        i += 1;
     }
     next
 }
@@ -80,10 +78,8 @@ fn widened(columns: &[u32]) -> [u64; 1024]
     ensures { take (length columns.now) result ≡ columns.now }
 {
     let mut numbers = [0u64; 1024];
-    let mut i = 0;
-    while i < columns.len() {
+    for i in 0..columns.len() {
         numbers[i] = columns[i] as u64;
-        i += 1;
     }
     numbers
 }
@@ -94,10 +90,8 @@ fn all_bits(values: &[f64]) -> [u64; 1024]
     ensures { take (length values.now) result ≡ bits_of values.now }
 {
     let mut numbers = [0u64; 1024];
-    let mut i = 0;
-    while i < values.len() {
+    for i in 0..values.len() {
         numbers[i] = printing::bits_of(values[i]);
-        i += 1;
     }
     numbers
 }
