@@ -2,7 +2,7 @@
 use mathlib.Core.Path.{◌≡◌, sym, ap, ap₂, ◌∙◌}
 use Rattle.definition.specs.Numbers.{Params}
 use Rattle.definition.specs.Refusals as definition
-use Rattle.input.specs.declared.Verdict.{Verdict}
+use Rattle.input.specs.declared.refusal.Verdict.{Verdict}
 use Rattle.input.specs.declared.SpectralParams.{SpectralParams}
 use Rattle.input.specs.declared.Set.{Set}
 use Rattle.input.specs.Said.{verdict_of, params_of, Answered}

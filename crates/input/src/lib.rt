@@ -2,28 +2,22 @@
 // Each function equals its definition on every input.
 #![tactic(auto)]
 
-ghost use Rattle.std.specs.Prelude.{◌≡◌, cond};
+ghost use Rattle.std.specs.Prelude.{◌≡◌};
 ghost use Rattle.definition.specs.Numbers.{defaults};
-ghost use Rattle.definition.specs.Refusals.{passes, test_rounds, test_degree, test_seed_std, set_rounds, set_degree, set_seed_std};
-ghost use Rattle.input.specs.Said.{verdict_of, params_of, Answered};
+ghost use Rattle.definition.specs.Refusals.{test_rounds, test_degree, test_seed_std, set_rounds, set_degree, set_seed_std};
+ghost use Rattle.input.specs.Said.{params_of, set_in, Answered};
 
 mod chunks;
+mod refusal;
 mod request;
 mod scan;
 
 pub use chunks::{chunk_count, end_row, first_row};
+pub use refusal::{Refusal, Verdict};
 pub use request::{
     lent_sizes, row_count, test_dims, test_graph, test_lent, test_params, test_request,
     test_seed_std,
 };
-
-// A refusal's number and its place; number 0 is no refusal.
-#[repr(C)]
-#[derive(Clone, Copy)]
-pub struct Verdict {
-    pub number: u64,
-    pub place: u64,
-}
 
 // What a caller may set.
 #[repr(C)]
@@ -34,12 +28,35 @@ pub struct SpectralParams {
     pub seed_std: f64,
 }
 
-// What a setter answers: the new parameters, or a refusal with the old ones.
+// What a setter answers to C: the new parameters, or a refusal with the old ones.
 #[repr(C)]
 #[derive(Clone, Copy)]
 pub struct Set {
     pub verdict: Verdict,
     pub params: SpectralParams,
+}
+
+impl Set {
+    pub fn of(answer: Result<SpectralParams, Refusal>, old: SpectralParams) -> Set
+        ensures { result ≡ set_in old answer }
+    {
+        match answer {
+            Ok(new) => Set {
+                verdict: Verdict {
+                    number: 0,
+                    place: 0,
+                },
+                params: new,
+            },
+            Err(refusal) => Set {
+                verdict: Verdict {
+                    number: refusal.number(),
+                    place: refusal.place(),
+                },
+                params: old,
+            },
+        }
+    }
 }
 
 impl SpectralParams {
@@ -74,44 +91,24 @@ impl SpectralParams {
         }
     }
 
-    // New parameters where their test passes, and the old ones with a refusal.
-    fn set(verdict: Verdict, new: Self, old: Self) -> Set
-        ensures { Answered (verdict_of verdict) (cond (passes (verdict_of verdict)) (params_of new) (params_of old)) result }
+    pub fn rounds(self, rounds: u64) -> Result<Self, Refusal>
+        ensures { Answered (test_rounds rounds) (set_rounds (params_of self) rounds) (set_in self result) }
     {
-        if verdict.number == 0 {
-            Set {
-                verdict,
-                params: new,
-            }
-        } else {
-            Set {
-                verdict,
-                params: old,
-            }
-        }
+        request::test_rounds(rounds)?;
+        Ok(Self { rounds, ..self })
     }
 
-    pub fn rounds(self, rounds: u64) -> Set
-        ensures { Answered (test_rounds rounds) (set_rounds (params_of self) rounds) result }
+    pub fn degree(self, degree: u64) -> Result<Self, Refusal>
+        ensures { Answered (test_degree degree) (set_degree (params_of self) degree) (set_in self result) }
     {
-        let mut new = self;
-        new.rounds = rounds;
-        Self::set(request::test_rounds(rounds), new, self)
+        request::test_degree(degree)?;
+        Ok(Self { degree, ..self })
     }
 
-    pub fn degree(self, degree: u64) -> Set
-        ensures { Answered (test_degree degree) (set_degree (params_of self) degree) result }
+    pub fn seed_std(self, seed_std: f64) -> Result<Self, Refusal>
+        ensures { Answered (test_seed_std seed_std) (set_seed_std (params_of self) seed_std) (set_in self result) }
     {
-        let mut new = self;
-        new.degree = degree;
-        Self::set(request::test_degree(degree), new, self)
-    }
-
-    pub fn seed_std(self, s: f64) -> Set
-        ensures { Answered (test_seed_std s) (set_seed_std (params_of self) s) result }
-    {
-        let mut new = self;
-        new.seed_std = s;
-        Self::set(request::test_seed_std(s), new, self)
+        request::test_seed_std(seed_std)?;
+        Ok(Self { seed_std, ..self })
     }
 }

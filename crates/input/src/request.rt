@@ -1,31 +1,21 @@
 // The test of a request: refusals 1 to 11, in document 01's order.
-ghost use Rattle.std.specs.Prelude.{◌≡◌, ◌-◌, length, get_or};
+ghost use Rattle.std.specs.Prelude.{◌≡◌, ◌-◌, cond, length, get_or};
 ghost use Rattle.definition.specs.Arith.{ieee64};
 ghost use Rattle.definition.specs.Memory.{wholes_of};
 ghost use Rattle.definition.specs.Numbers.{lent_sizes};
 ghost use Rattle.definition.specs.Refusals as refusals;
-ghost use Rattle.input.specs.Said.{verdict_of, params_of, Allowed};
+ghost use Rattle.input.specs.Said.{refusal_of, verdict_in, params_of, Allowed};
 
 use crate::chunks::chunk_count;
-use crate::scan::{first_fall, first_high_column, first_short, first_unfinite, is_finite};
-use crate::{SpectralParams, Verdict};
+use crate::scan::{is_finite, test_columns, test_enough, test_rising, test_values};
+use crate::{Refusal, SpectralParams};
 
 // ---- what the tests are made of
 
-fn given(fault: bool, number: u64, place: usize) -> Verdict
-    ensures { verdict_of result ≡ refusals.given fault number place }
+fn refuse_if(fault: bool, refusal: Refusal) -> Result<(), Refusal>
+    ensures { verdict_in result ≡ cond fault (refusal_of refusal) refusals.accepted }
 {
-    if fault {
-        Verdict {
-            number,
-            place: place as u64,
-        }
-    } else {
-        Verdict {
-            number: 0,
-            place: 0,
-        }
-    }
+    if fault { Err(refusal) } else { Ok(()) }
 }
 
 fn within(x: u64, most: u64) -> bool
@@ -38,11 +28,7 @@ fn within(x: u64, most: u64) -> bool
 pub fn row_count(starts: &[u64]) -> usize
     ensures { result ≡ length starts.now - 1 }
 {
-    if 0 < starts.len() {
-        starts.len() - 1
-    } else {
-        0
-    }
+    starts.len().saturating_sub(1)
 }
 
 fn start_at(starts: &[u64], i: usize) -> u64
@@ -53,81 +39,68 @@ fn start_at(starts: &[u64], i: usize) -> u64
 
 // ---- the tests
 
-pub fn test_dims(d: u64) -> Verdict
-    ensures { verdict_of result ≡ refusals.test_dims d }
+pub fn test_dims(d: u64) -> Result<(), Refusal>
+    ensures { verdict_in result ≡ refusals.test_dims d }
 {
-    given(!within(d, SpectralParams::DIMS_MOST), 1, 0)
+    refuse_if(!within(d, SpectralParams::DIMS_MOST), Refusal::Dims)
 }
 
-fn test_rows(starts: &[u64]) -> Verdict
-    ensures { verdict_of result ≡ refusals.test_rows starts.now }
+fn test_rows(starts: &[u64]) -> Result<(), Refusal>
+    ensures { verdict_in result ≡ refusals.test_rows starts.now }
 {
-    given(starts.len() < 2, 2, 0)
+    refuse_if(starts.len() < 2, Refusal::Rows)
 }
 
-fn test_limits(starts: &[u64], columns: &[u32]) -> Verdict
-    ensures { verdict_of result ≡ refusals.test_limits starts.now columns.now }
+fn test_limits(starts: &[u64], columns: &[u32]) -> Result<(), Refusal>
+    ensures { verdict_in result ≡ refusals.test_limits starts.now columns.now }
 {
     let n = row_count(starts);
-    given(
+    refuse_if(
         SpectralParams::ROWS_MOST < n || SpectralParams::ENTRIES_MOST < columns.len(),
-        3,
-        0,
+        Refusal::Limits,
     )
 }
 
-fn test_lengths(columns: usize, values: usize) -> Verdict
-    ensures { verdict_of result ≡ refusals.test_lengths columns values }
+fn test_lengths(columns: usize, values: usize) -> Result<(), Refusal>
+    ensures { verdict_in result ≡ refusals.test_lengths columns values }
 {
-    given(columns != values, 4, 0)
+    refuse_if(columns != values, Refusal::Lengths)
 }
 
-fn test_starts(starts: &[u64], columns: &[u32]) -> Verdict
-    ensures { verdict_of result ≡ refusals.test_starts starts.now columns.now }
+fn test_starts(starts: &[u64], columns: &[u32]) -> Result<(), Refusal>
+    ensures { verdict_in result ≡ refusals.test_starts starts.now columns.now }
 {
     let n = row_count(starts);
-    let first = given(start_at(starts, 0) != 0, 5, 0);
-    if first.number != 0 {
-        return first;
-    }
-    let fall = first_fall(starts);
-    let falls = given(fall < 1 + n, 5, fall);
-    if falls.number != 0 {
-        return falls;
-    }
-    given(start_at(starts, n) != columns.len() as u64, 5, n)
+    refuse_if(start_at(starts, 0) != 0, Refusal::Starts(0))?;
+    test_rising(starts)?;
+    refuse_if(
+        start_at(starts, n) != columns.len() as u64,
+        Refusal::Starts(n),
+    )
 }
 
-fn test_columns(n: usize, columns: &[u32]) -> Verdict
-    ensures { verdict_of result ≡ refusals.test_columns n columns.now }
+pub fn test_rounds(rounds: u64) -> Result<(), Refusal>
+    ensures { verdict_in result ≡ refusals.test_rounds rounds }
 {
-    let e = first_high_column(n, columns);
-    given(e < columns.len(), 6, e)
+    refuse_if(
+        !within(rounds, SpectralParams::ROUNDS_MOST),
+        Refusal::Rounds,
+    )
 }
 
-fn test_values(values: &[f64]) -> Verdict
-    ensures { verdict_of result ≡ refusals.test_values ieee64 values.now }
+pub fn test_degree(degree: u64) -> Result<(), Refusal>
+    ensures { verdict_in result ≡ refusals.test_degree degree }
 {
-    let e = first_unfinite(values);
-    given(e < values.len(), 7, e)
+    refuse_if(
+        !within(degree, SpectralParams::DEGREE_MOST),
+        Refusal::Degree,
+    )
 }
 
-pub fn test_rounds(rounds: u64) -> Verdict
-    ensures { verdict_of result ≡ refusals.test_rounds rounds }
+pub fn test_seed_std(s: f64) -> Result<(), Refusal>
+    ensures { verdict_in result ≡ refusals.test_seed_std s }
 {
-    given(!within(rounds, SpectralParams::ROUNDS_MOST), 8, 0)
-}
-
-pub fn test_degree(degree: u64) -> Verdict
-    ensures { verdict_of result ≡ refusals.test_degree degree }
-{
-    given(!within(degree, SpectralParams::DEGREE_MOST), 9, 0)
-}
-
-pub fn test_seed_std(s: f64) -> Verdict
-    ensures { verdict_of result ≡ refusals.test_seed_std s }
-{
-    given(!(0.0 < s && is_finite(s)), 10, 0)
+    refuse_if(!(0.0 < s && is_finite(s)), Refusal::SeedStd)
 }
 
 // How long each lent memory must be.
@@ -156,52 +129,35 @@ pub fn lent_sizes(d: usize, rounds: usize, n: usize, m: usize) -> [usize; 11]
     ]
 }
 
-pub fn test_lent(d: usize, rounds: usize, n: usize, m: usize, lent: [usize; 11]) -> Verdict
+pub fn test_lent(
+    d: usize,
+    rounds: usize,
+    n: usize,
+    m: usize,
+    lent: [usize; 11],
+) -> Result<(), Refusal>
     requires { Allowed d rounds n m }
-    ensures { verdict_of result ≡ refusals.test_lent d rounds n m (wholes_of lent) }
+    ensures { verdict_in result ≡ refusals.test_lent d rounds n m (wholes_of lent) }
 {
-    let sizes = lent_sizes(d, rounds, n, m);
-    let j = first_short(lent, sizes);
-    given(j < 11, 11, j)
+    test_enough(lent, lent_sizes(d, rounds, n, m))
 }
 
-pub fn test_params(params: SpectralParams) -> Verdict
-    ensures { verdict_of result ≡ refusals.test_params (params_of params) }
+pub fn test_params(params: SpectralParams) -> Result<(), Refusal>
+    ensures { verdict_in result ≡ refusals.test_params (params_of params) }
 {
-    let rounds = test_rounds(params.rounds);
-    if rounds.number != 0 {
-        return rounds;
-    }
-    let degree = test_degree(params.degree);
-    if degree.number != 0 {
-        return degree;
-    }
+    test_rounds(params.rounds)?;
+    test_degree(params.degree)?;
     test_seed_std(params.seed_std)
 }
 
-pub fn test_graph(starts: &[u64], columns: &[u32], values: &[f64]) -> Verdict
-    ensures { verdict_of result ≡ refusals.test_graph ieee64 starts.now columns.now values.now }
+pub fn test_graph(starts: &[u64], columns: &[u32], values: &[f64]) -> Result<(), Refusal>
+    ensures { verdict_in result ≡ refusals.test_graph ieee64 starts.now columns.now values.now }
 {
-    let rows = test_rows(starts);
-    if rows.number != 0 {
-        return rows;
-    }
-    let limits = test_limits(starts, columns);
-    if limits.number != 0 {
-        return limits;
-    }
-    let lengths = test_lengths(columns.len(), values.len());
-    if lengths.number != 0 {
-        return lengths;
-    }
-    let rising = test_starts(starts, columns);
-    if rising.number != 0 {
-        return rising;
-    }
-    let below = test_columns(row_count(starts), columns);
-    if below.number != 0 {
-        return below;
-    }
+    test_rows(starts)?;
+    test_limits(starts, columns)?;
+    test_lengths(columns.len(), values.len())?;
+    test_starts(starts, columns)?;
+    test_columns(row_count(starts), columns)?;
     test_values(values)
 }
 
@@ -213,21 +169,12 @@ pub fn test_request(
     columns: &[u32],
     values: &[f64],
     lent: [usize; 11],
-) -> Verdict
-    ensures { verdict_of result ≡ refusals.test_request ieee64 d (params_of params) starts.now columns.now values.now (wholes_of lent) }
+) -> Result<(), Refusal>
+    ensures { verdict_in result ≡ refusals.test_request ieee64 d (params_of params) starts.now columns.now values.now (wholes_of lent) }
 {
-    let dims = test_dims(d);
-    if dims.number != 0 {
-        return dims;
-    }
-    let graph = test_graph(starts, columns, values);
-    if graph.number != 0 {
-        return graph;
-    }
-    let set = test_params(params);
-    if set.number != 0 {
-        return set;
-    }
+    test_dims(d)?;
+    test_graph(starts, columns, values)?;
+    test_params(params)?;
     test_lent(
         d as usize,
         params.rounds as usize,

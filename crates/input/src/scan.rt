@@ -1,9 +1,12 @@
-// One pass over a list each: the first fault.
+// One pass over a list each: the first fault is refused.
 ghost use Rattle.std.specs.Prelude.{◌≡◌, ◌-◌, length};
-ghost use Rattle.definition.specs.Arith.{is_finite};
+ghost use Rattle.definition.specs.Arith.{ieee64, is_finite};
 ghost use Rattle.definition.specs.Memory.{wholes_of};
-ghost use Rattle.definition.specs.Refusals.{first_from, falls};
-ghost use Rattle.input.specs.Said.{high, unfinite, short};
+ghost use Rattle.definition.specs.Refusals as refusals;
+ghost use Rattle.definition.specs.Refusals.{given_first, falls};
+ghost use Rattle.input.specs.Said.{verdict_in, short};
+
+use crate::Refusal;
 
 // Neither NaN nor infinite. (A constant can't be an infinity, a quotient can.)
 pub fn is_finite(x: f64) -> bool
@@ -12,59 +15,49 @@ pub fn is_finite(x: f64) -> bool
     -1.0 / 0.0 < x && x < 1.0 / 0.0
 }
 
-// The first start below the one before it, or the count of starts (1 where there is none).
-pub fn first_fall(starts: &[u64]) -> usize
-    ensures { result ≡ first_from (falls starts.now) 1 (length starts.now - 1) }
+// No start is below the one before it.
+pub fn test_rising(starts: &[u64]) -> Result<(), Refusal>
+    ensures { verdict_in result ≡ given_first (falls starts.now) 1 (length starts.now - 1) 5 }
 {
-    let mut i = 1;
-    while i < starts.len() {
+    for i in 1..starts.len() {
         if starts[i] < starts[i - 1] {
-            return i;
+            return Err(Refusal::Starts(i));
         }
-        i += 1;
     }
-    i
+    Ok(())
 }
 
-// The first entry whose column is not below n, or the count of entries.
-pub fn first_high_column(n: usize, columns: &[u32]) -> usize
-    ensures { result ≡ first_from (high n columns.now) 0 (length columns.now) }
+pub fn test_columns(n: usize, columns: &[u32]) -> Result<(), Refusal>
+    ensures { verdict_in result ≡ refusals.test_columns n columns.now }
 {
-    let mut e = 0;
-    while e < columns.len() {
+    for e in 0..columns.len() {
         let column = columns[e] as usize;
         if n <= column {
-            return e;
+            return Err(Refusal::Column(e));
         }
-        e += 1;
     }
-    e
+    Ok(())
 }
 
-// The first entry whose value is NaN or infinite, or the count of entries.
-pub fn first_unfinite(values: &[f64]) -> usize
-    ensures { result ≡ first_from (unfinite values.now) 0 (length values.now) }
+pub fn test_values(values: &[f64]) -> Result<(), Refusal>
+    ensures { verdict_in result ≡ refusals.test_values ieee64 values.now }
 {
-    let mut e = 0;
-    while e < values.len() {
+    for e in 0..values.len() {
         if !is_finite(values[e]) {
-            return e;
+            return Err(Refusal::Value(e));
         }
-        e += 1;
     }
-    e
+    Ok(())
 }
 
-// The first lent memory that is shorter than its size, or 11.
-pub fn first_short(lent: [usize; 11], sizes: [usize; 11]) -> usize
-    ensures { result ≡ first_from (short (wholes_of lent) (wholes_of sizes)) 0 11 }
+// No lent memory is shorter than its size.
+pub fn test_enough(lent: [usize; 11], sizes: [usize; 11]) -> Result<(), Refusal>
+    ensures { verdict_in result ≡ given_first (short (wholes_of lent) (wholes_of sizes)) 0 11 11 }
 {
-    let mut j = 0;
-    while j < 11 {
+    for j in 0..11 {
         if lent[j] < sizes[j] {
-            return j;
+            return Err(Refusal::Memory(j));
         }
-        j += 1;
     }
-    j
+    Ok(())
 }

@@ -5,4 +5,4 @@ use Rattle.input.proofs.request.test_dims.Goals as goal
 
 pub returns : goal.returns
 unfolding test_dims
-returns c = c.given.ensures ∙ ap (λ (b : Bool). given (not b) 1 0) c.within.ensures
+returns c = c.refuse_if.ensures ∙ ap (λ (b : Bool). given (not b) 1 0) c.within.ensures

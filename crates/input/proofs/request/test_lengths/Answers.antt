@@ -3,4 +3,4 @@ use Rattle.input.proofs.request.test_lengths.Goals as goal
 
 pub returns : goal.returns
 unfolding test_lengths
-returns c = c.given.ensures
+returns c = c.refuse_if.ensures

@@ -1,15 +1,16 @@
+-- Each test passes until one refuses.
 use Rattle.definition.specs.Refusals.{test_params}
-use Rattle.input.proofs.Verdicts.{refuses, goes_on_lem}
+use Rattle.input.proofs.Verdicts.{stops, goes_past}
 use Rattle.input.proofs.request.test_params.Goals as goal
 
-pub returns-then-rounds-ne0 : goal.returns-then-rounds-ne0
+pub returns-in_err-test_rounds : goal.returns-in_err-test_rounds
 unfolding test_params
-returns-then-rounds-ne0 c = refuses c.test_rounds-rounds.ensures _ c.if-rounds-ne0.true
+returns-in_err-test_rounds c = stops _ _ c.from_residual.ensures.1 _ c.in_err-test_rounds.ensures
 
-pub returns-then-degree-ne0 : goal.returns-then-degree-ne0
+pub returns-in_err-test_degree : goal.returns-in_err-test_degree
 unfolding test_params
-returns-then-degree-ne0 c = goes_on_lem c.test_rounds-rounds.ensures c.if-rounds-ne0.false (refuses c.test_degree-degree.ensures _ c.if-degree-ne0.true)
+returns-in_err-test_degree c = goes_past c.in_ok-test_rounds.ensures (stops _ _ c.from_residual-in_err-test_degree.ensures.1 _ c.in_err-test_degree.ensures)
 
 pub returns : goal.returns
 unfolding test_params
-returns c = goes_on_lem c.test_rounds-rounds.ensures c.if-rounds-ne0.false (goes_on_lem c.test_degree-degree.ensures c.if-degree-ne0.false c.test_seed_std.ensures)
+returns c = goes_past c.in_ok-test_rounds.ensures (goes_past c.in_ok-test_degree.ensures c.test_seed_std.ensures)

@@ -5,4 +5,4 @@ use Rattle.input.proofs.request.test_rounds.Goals as goal
 
 pub returns : goal.returns
 unfolding test_rounds
-returns c = c.given.ensures ∙ ap (λ (b : Bool). given (not b) 8 0) c.within.ensures
+returns c = c.refuse_if.ensures ∙ ap (λ (b : Bool). given (not b) 8 0) c.within.ensures

@@ -3,4 +3,4 @@ use Rattle.input.proofs.request.test_rows.Goals as goal
 
 pub returns : goal.returns
 unfolding test_rows
-returns c = c.given.ensures
+returns c = c.refuse_if.ensures

@@ -10,5 +10,5 @@ pub returns : goal.returns
 unfolding test_seed_std
 returns c =
     let finite = is_finite c.args.s in
-    c.given.ensures
-    ∙ ap (λ (b : Bool). given (not b) 10 0) (elim c.if-s.branch [ then-s w ↦ and_open finite w.if-s.true (w.given-is ∙ w.is_finite.ensures) | else-s w ↦ and_decided finite w.if-s.false w.given-is ])
+    c.refuse_if.ensures
+    ∙ ap (λ (b : Bool). given (not b) 10 0) (elim c.if-s.branch [ then-s w ↦ and_open finite w.if-s.true (w.refuse_if-is ∙ w.is_finite.ensures) | else-s w ↦ and_decided finite w.if-s.false w.refuse_if-is ])

@@ -4,10 +4,7 @@ use Prim.Native.Nat.{◌-◌}
 use lib.ListN.{length}
 use Rattle.definition.specs.Refusals.{first_from}
 use Rattle.input.specs.Said.{high}
-use Rattle.input.proofs.scan.first_high_column.Given as goal
+use Rattle.input.proofs.scan.test_columns.Given as goal
 
 abbrev pub invariant-loop-e : goal.invariant-loop-e
 invariant-loop-e l = first_from (high l.n l.columns) 0 (length l.columns) ≡ first_from (high l.n l.columns) l.e (length l.columns - l.e)
-
-abbrev pub decreases-loop-e : goal.decreases-loop-e
-decreases-loop-e l = length l.columns - l.e

@@ -1,4 +1,4 @@
-use Rattle.input.proofs.request.given.Goals as goal
+use Rattle.input.proofs.request.refuse_if.Goals as goal
 
 pub returns-then-fault : goal.returns-then-fault
 returns-then-fault c = simp c.if-fault.true
