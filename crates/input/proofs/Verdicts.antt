@@ -1,11 +1,11 @@
 -- Laws of tests that stand one after the other, and of what is picked by one. v is a verdict that the code found, t the test that it equals. Assumes nothing.
 use mathlib.Core.Path.{◌≡◌, refl, sym, ap, ◌∙◌}
-use mathlib.Core.Bool.{Bool, true, false, cond}
+use mathlib.Core.Bool.{Bool, true, false, cond, false≢true}
 use Prim.Native.Nat.{ℕ, suc, ◌+◌, ◌≤◌, ◌<◌}
 use native.Mathlib.Omega.{arith}
 use borrow.Author.Tests.{eq-eqb, ne_eqb, lt-ltb, le-ltb}
 use lib.Dec.{ltb}
-use Rattle.std.specs.Prelude.{Result, Ok, Err, IsErrAnd}
+use Rattle.std.specs.Prelude.{Result, Ok, Err, IsErrAnd, is_ok, is_err}
 use Rattle.definition.specs.Numbers.{Params}
 use Rattle.definition.specs.Refusals.{Verdict, accepted, refused, given, given_first, first_from, or_else, passes}
 use Rattle.input.specs.declared.refusal.Refusal.{Refusal}
@@ -83,6 +83,19 @@ passed e = sym (ap (λ (u : Verdict). u.number) e)
 
 pub goes_past : {t w x : Verdict} → accepted ≡ t → x ≡ w → x ≡ or_else t w
 goes_past e g = goes_on_lem e refl g
+
+-- whether a test passed, asked of its answer
+pub ok_passes : (r : Result Unit Refusal) → is_ok r ≡ passes (verdict_in r)
+ok_passes (Ok x) = refl
+ok_passes (Err d) = sym (ne_eqb (refusal_of d).number 0 (numbered d))
+
+pub kept : (r : Result Unit Refusal) → is_err r ≡ false → (verdict_in r).number ≡ 0
+kept (Ok x) h = refl
+kept (Err d) h = absurd (false≢true (sym h))
+
+pub turned_down : (r : Result Unit Refusal) → is_err r ≡ true → (verdict_in r).number ≡ 0 → ⊥
+turned_down (Ok x) h e = absurd (false≢true h)
+turned_down (Err d) h e = numbered d e
 
 -- a scan's first fault is what it refuses
 module _ (f : ℕ → Bool) (a m r : ℕ) where

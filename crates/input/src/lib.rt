@@ -16,7 +16,7 @@ pub use chunks::{chunk_count, end_row, first_row};
 pub use refusal::{Refusal, Verdict};
 pub use request::{
     lent_sizes, row_count, test_dims, test_graph, test_lent, test_params, test_request,
-    test_seed_std,
+    test_seed_std, within,
 };
 
 // What a caller may set.

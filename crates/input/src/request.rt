@@ -18,10 +18,11 @@ fn refuse_if(fault: bool, refusal: Refusal) -> Result<(), Refusal>
     if fault { Err(refusal) } else { Ok(()) }
 }
 
-fn within(x: u64, most: u64) -> bool
+// From 1 to a limit.
+pub fn within(x: u64, most: u64) -> bool
     ensures { result ≡ refusals.within x most }
 {
-    1 <= x && x <= most
+    (1..=most).contains(&x)
 }
 
 // n: one less than the starts.
