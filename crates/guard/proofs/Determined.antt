@@ -8,9 +8,10 @@ use lib.Ieee.{Float, nan}
 use lib.ListN.{length, get_or, replicate, length-replicate}
 use Rattle.definition.specs.Arith.{ieee64}
 use Rattle.definition.specs.Refusals as definition
-use Rattle.input.specs.declared.Verdict.{Verdict}
-use Rattle.input.specs.Said.{verdict_of}
-use Rattle.input.proofs.Determined.{verdict-once}
+use Rattle.std.specs.Prelude.{Result}
+use Rattle.input.specs.declared.refusal.Refusal.{Refusal}
+use Rattle.input.specs.Said.{verdict_in}
+use Rattle.input.proofs.Determined.{tested-once}
 use Rattle.machine.specs.State.{Lent}
 use Rattle.guard.specs.Rows.{other_lengths}
 
@@ -46,8 +47,8 @@ has-lengths edges (a ∷ b ∷ c ∷ d ∷ e ∷ f ∷ g ∷ h ∷ []) q = absur
 has-lengths edges (a ∷ b ∷ c ∷ d ∷ e ∷ f ∷ g ∷ h ∷ i ∷ j ∷ l) q = absurd (omega arith)
 
 -- `test` is the machine's test as a function of the lent memory
-pub test_once : (edges l : List ℕ) → length l ≡ 9 → (test : Lent ieee64 → definition.Verdict) (r s : Verdict)
-    → ((m : Lent ieee64) → m.edge_columns ≡ edges → other_lengths m ≡ l → verdict_of r ≡ test m)
-    → ((m : Lent ieee64) → m.edge_columns ≡ edges → other_lengths m ≡ l → verdict_of s ≡ test m) → r ≡ s
+pub test_once : (edges l : List ℕ) → length l ≡ 9 → (test : Lent ieee64 → definition.Verdict) (r s : Result Unit Refusal)
+    → ((m : Lent ieee64) → m.edge_columns ≡ edges → other_lengths m ≡ l → verdict_in r ≡ test m)
+    → ((m : Lent ieee64) → m.edge_columns ≡ edges → other_lengths m ≡ l → verdict_in s ≡ test m) → r ≡ s
 test_once edges l q test r s p o =
-    let m = lent_of edges l in let e : other_lengths m ≡ l = has-lengths edges l q in verdict-once r s (p m refl e ∙ sym (o m refl e))
+    let m = lent_of edges l in let e : other_lengths m ≡ l = has-lengths edges l q in tested-once r s (p m refl e ∙ sym (o m refl e))

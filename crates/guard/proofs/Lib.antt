@@ -8,3 +8,4 @@ pub mod Lengths
 pub mod Verdicts
 pub mod Owed
 pub mod Determined
+pub mod Begun

@@ -4,14 +4,9 @@ use Rattle.definition.specs.Arith.{ieee64}
 use Rattle.definition.specs.Marks.{undone}
 use Rattle.definition.specs.Memory.{wholes_of}
 use Rattle.definition.specs.Refusals.{Verdict, given, or_else, passes, test_lent}
-use Rattle.definition.specs.SpectralEmbedding.{Counts}
-use Rattle.machine.specs.State.{Asked, chunk_count, Lists, Progress, Lent}
-use Rattle.machine.specs.Ranges.{asked_sound, progress_sound, counts_sound, order_sound, reads_edges, reads_starts, starts_sound, columns_sound, lists_enough}
+use Rattle.machine.specs.State.{Asked, chunk_count, Lists, State, Lent}
+use Rattle.machine.specs.Ranges.{state_sound, is_open, reads_edges, reads_starts, starts_sound, columns_sound, lists_enough}
 use Rattle.machine.specs.Ready.{AskedReady}
-
--- the machine's `state_sound`, of a state with these fields
-abbrev pub fields_sound : Asked → Progress ieee64 → Counts → List ℕ → Bool
-fields_sound a p counts order = asked_sound a && (progress_sound ieee64 a p && (counts_sound a counts && order_sound a order))
 
 -- the machine's `rows_sound`, whose graph has these starts and columns, and whose memory has these edge columns
 unfoldable pub rows_test : ℕ → Asked → List ℕ → List ℕ → List ℕ → ℕ → Bool
@@ -35,6 +30,12 @@ own_test st a starts columns edge_columns marks h =
 -- the machine's `lists_sound`, whose lent lists have these lengths
 unfoldable pub lists_test : Asked → Lists ieee64 → List ℕ → Bool
 lists_test a g lengths = lists_enough ieee64 a g && passes (test_lent a.dims a.rounds a.rows a.entries (wholes_of lengths))
+
+-- what a chunk call and closing test first: 16, 15, 16
+abbrev pub begun_test : State ieee64 → Lists ieee64 → List ℕ → Verdict
+begun_test s g lengths =
+    or_else (given (not (state_sound ieee64 s)) 16 0)
+    (or_else (given (not (is_open ieee64 s)) 15 0) (given (not (lists_test s.asked g lengths)) 16 0))
 
 -- the lengths of the lent lists that a test does not get: all but the edge columns and the marks, in document 01's order
 abbrev pub other_lengths : Lent ieee64 → List ℕ

@@ -1,6 +1,6 @@
 // Progress for people: the calls accepted so far in whole stages, and those that the run owes if no further column is refreshed.
 // A damaged state, and one where no run was opened, answers 0.
-ghost use Rattle.std.specs.Prelude.{◌≡◌, not, ◌&&◌, ◌-◌, ◌*◌, ◌≤◌, eqb};
+ghost use Rattle.std.specs.Prelude.{◌≡◌, not, ◌&&◌, ◌*◌, ◌≤◌, eqb};
 ghost use Rattle.definition.specs.Arith.{ieee64};
 ghost use Rattle.machine.specs.State.{wide, stage_of};
 ghost use Rattle.machine.specs.Ranges.{state_sound};
@@ -64,18 +64,10 @@ fn closed_stages(a: Asked, p: Progress, refreshed: usize) -> usize
     after_rounds(a, p.round, refreshed, i)
 }
 
-// What is left of a run; nothing where more is closed than it has.
-fn left(run: usize, closed: usize) -> usize
-    ensures { result ≡ run - closed }
-{
-    if closed < run { run - closed } else { 0 }
-}
-
 fn has_run(state: State) -> bool
     ensures { result ≡ (state_sound ieee64 (state_in state) && not (eqb state.progress.stage 0)) }
 {
-    let p = state.progress;
-    state_sound(state) && p.stage != 0
+    state_sound(state) && state.progress.stage != 0
 }
 
 pub fn calls_accepted(state: State) -> usize
@@ -102,5 +94,5 @@ pub fn calls_owed(state: State) -> usize
     let counts = state.counts;
     let run = run_stages(a, counts.refreshed);
     let closed = closed_stages(a, p, counts.refreshed);
-    left(run, closed) * (input::chunk_count(a.rows) + 1)
+    run.saturating_sub(closed) * (input::chunk_count(a.rows) + 1)
 }

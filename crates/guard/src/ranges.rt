@@ -1,39 +1,25 @@
 // The ranges of a state's own fields: refusal 16 where one is left, whatever the graph and the memory are.
 ghost use Rattle.std.specs.Prelude.{◌≡◌, ◌&&◌, leb, ltb};
 ghost use Rattle.definition.specs.Arith.{ieee64};
-ghost use Rattle.definition.specs.Refusals as refusals;
 ghost use Rattle.machine.specs.State.{last_stage};
 ghost use Rattle.machine.specs.Ranges.{asked_sound, bound_sound, alpha_sound, progress_sound, counts_sound, order_sound, state_sound};
 ghost use Rattle.machine.specs.Ready.{AskedReady};
 ghost use Rattle.state.specs.Said.{asked_in, progress_in, counts_in, state_in};
-ghost use Rattle.guard.specs.Rows.{fields_sound};
 
-use input::SpectralParams;
+use input::{SpectralParams, within};
 use state::{Asked, Counts, Progress, State};
 
-const DIMS_MOST: usize = 7;
-
-const ROUNDS_MOST: usize = 1000;
-
-const DEGREE_MOST: usize = 1000;
-
 const LAST_STAGE: usize = 20;
-
-fn within(x: usize, most: usize) -> bool
-    ensures { result ≡ refusals.within x most }
-{
-    1 <= x && x <= most
-}
 
 pub fn asked_sound(a: Asked) -> bool
     ensures { result ≡ asked_sound (asked_in a) }
 {
-    let seed_std = input::test_seed_std(a.seed_std);
-    within(a.dims, DIMS_MOST)
-        && (within(a.rows, SpectralParams::ROWS_MOST)
+    within(a.dims as u64, SpectralParams::DIMS_MOST)
+        && (within(a.rows as u64, SpectralParams::ROWS_MOST as u64)
             && (a.entries <= SpectralParams::ENTRIES_MOST
-                && (within(a.rounds, ROUNDS_MOST)
-                    && (within(a.degree, DEGREE_MOST) && seed_std.number == 0))))
+                && (within(a.rounds as u64, SpectralParams::ROUNDS_MOST)
+                    && (within(a.degree as u64, SpectralParams::DEGREE_MOST)
+                        && input::test_seed_std(a.seed_std).is_ok()))))
 }
 
 // From 0.1 to 0.9995; a NaN is not.
@@ -54,7 +40,7 @@ fn alpha_sound(a: f64) -> bool
 pub fn is_open(stage: usize) -> bool
     ensures { result ≡ (leb 1 stage && ltb stage last_stage) }
 {
-    1 <= stage && stage < LAST_STAGE
+    (1..LAST_STAGE).contains(&stage)
 }
 
 // The blocks at hand, and the filter's numbers.
@@ -100,19 +86,11 @@ fn order_sound(a: Asked, order: [usize; 15]) -> bool
     true
 }
 
-// The fields of a state that have a range: all that a test of a call looks at in it.
-pub fn fields_sound(a: Asked, p: Progress, counts: Counts, order: [usize; 15]) -> bool
-    ensures { result ≡ fields_sound (asked_in a) (progress_in p) (counts_in counts) order }
-{
-    asked_sound(a) && (progress_sound(a, p) && (counts_sound(a, counts) && order_sound(a, order)))
-}
-
 pub fn state_sound(state: State) -> bool
     ensures { result ≡ state_sound ieee64 (state_in state) }
 {
     let a = state.asked;
-    let p = state.progress;
-    let counts = state.counts;
-    let order = state.order;
-    fields_sound(a, p, counts, order)
+    asked_sound(a)
+        && (progress_sound(a, state.progress)
+            && (counts_sound(a, state.counts) && order_sound(a, state.order)))
 }

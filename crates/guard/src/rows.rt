@@ -1,6 +1,6 @@
 // What a call needs of the graph's lists and of lent memory: their lengths, and for a chunk that it names the starts, the
 // columns and the mark of that chunk, where the stage reads them.
-ghost use Rattle.std.specs.Prelude.{◌≡◌, ◌||◌, ◌+◌, ◌≤◌, ◌<◌, ltb, length};
+ghost use Rattle.std.specs.Prelude.{◌≡◌, ◌+◌, ◌≤◌, ◌<◌, length};
 ghost use Rattle.definition.specs.Arith.{ieee64};
 ghost use Rattle.definition.specs.Numbers.{first_row};
 ghost use Rattle.definition.specs.Requirements.{Starts};
@@ -30,16 +30,6 @@ pub fn starts_sound(a: Asked, h: usize, starts: &[u64]) -> bool
     starts[end] <= entries
 }
 
-// Whether a column past the last allowed one was found, with one more looked at.
-fn or_past(found: bool, column: u32, last: u32) -> bool
-    ensures { result ≡ (found || ltb last column) }
-{
-    if last < column {
-        return true;
-    }
-    found
-}
-
 // The columns of chunk h's entries are below n. It looks at all of them, whatever it has found: a loop with one way out is compiled for
 // several columns at a time.
 pub fn columns_sound(a: Asked, h: usize, starts: &[u64], columns: &[u32]) -> bool
@@ -55,7 +45,7 @@ pub fn columns_sound(a: Asked, h: usize, starts: &[u64], columns: &[u32]) -> boo
     let last = (n - 1) as u32;
     let mut found = false;
     for p in starts[first_row] as usize..end {
-        found = or_past(found, columns[p], last);
+        found |= last < columns[p];
     }
     !found
 }
@@ -117,6 +107,6 @@ pub fn lists_sound(
     requires { AskedReady (asked_in a) }
     ensures { result ≡ lists_test (asked_in a) (lists_in starts.now columns.now values.now) lengths }
 {
-    let lent = input::test_lent(a.dims, a.rounds, a.rows, a.entries, lengths);
-    lists_enough(a, starts, columns, values) && lent.number == 0
+    lists_enough(a, starts, columns, values)
+        && input::test_lent(a.dims, a.rounds, a.rows, a.entries, lengths).is_ok()
 }

@@ -7,7 +7,7 @@ use Rattle.state.specs.Said.{asked_in, progress_in, state_in}
 use Rattle.guard.specs.Counted.{Begun, stages_most}
 use Rattle.guard.proofs.Owed.{begun, chunks-few, none_owed, some_owed}
 use Rattle.guard.proofs.progress.calls_owed.Goals as goal
-use Rattle.guard.proofs.progress.calls_owed.Goals.{After-chunk_count, After-left, Else-not-has_run}
+use Rattle.guard.proofs.progress.calls_owed.Goals.{After-chunk_count, After-saturating_sub, Else-not-has_run}
 
 opened : (c : Else-not-has_run) → let s = c.args.state in Begun (asked_in s.asked) (progress_in s.progress) s.counts.refreshed
 opened c = begun (state_in c.args.state) (sym c.has_run.ensures ∙ c.if-not-has_run.false)
@@ -15,8 +15,8 @@ opened c = begun (state_in c.args.state) (sym c.has_run.ensures ∙ c.if-not-has
 few : (c : After-chunk_count) → c.chunk_count.result + 1 ≤ 257
 few c = omega (arith, chunks-few (begun (state_in c.args.state) (sym c.has_run.ensures ∙ c.if-not-has_run.false)).asked, c.chunk_count.ensures)
 
-left-few : (c : After-left) → c.left.result ≤ stages_most
-left-few c = omega (arith, c.left.ensures, c.run_stages-run.ensures.upper_bound)
+left-few : (c : After-saturating_sub) → c.saturating_sub.result ≤ stages_most
+left-few c = omega (arith, c.saturating_sub.ensures, c.run_stages-run.ensures.upper_bound)
 
 pub returns-then-not-has_run : goal.returns-then-not-has_run
 returns-then-not-has_run c = none_owed (state_in c.args.state) (sym c.has_run.ensures ∙ c.if-not-has_run.true)
@@ -33,10 +33,10 @@ pub overflow_add-result : goal.overflow_add-result
 overflow_add-result c = omega (arith, few (goal.at.overflow_add-result c).After-chunk_count)
 
 pub overflow_mul-result : goal.overflow_mul-result
-overflow_mul-result c = omega (arith, mul-le-mul (left-few (goal.at.overflow_mul-result c).After-left) (few (goal.at.overflow_mul-result c).After-chunk_count))
+overflow_mul-result c = omega (arith, mul-le-mul (left-few (goal.at.overflow_mul-result c).After-saturating_sub) (few (goal.at.overflow_mul-result c).After-chunk_count))
 
 pub returns : goal.returns
 unfolding closed_stages
 returns c =
     some_owed (state_in c.args.state) (sym c.has_run.ensures ∙ c.if-not-has_run.false)
-    (c.left.ensures ∙ ap₂ (λ (x y : ℕ). x - y) c.run_stages-run.ensures.value c.closed_stages-closed.ensures.value) c.chunk_count.ensures
+    (c.saturating_sub.ensures ∙ ap₂ (λ (x y : ℕ). x - y) c.run_stages-run.ensures.value c.closed_stages-closed.ensures.value) c.chunk_count.ensures

@@ -1,7 +1,8 @@
 -- The tests one after the other, until one fails.
-use mathlib.Core.Path.{refl, ap}
+use mathlib.Core.Path.{refl, ap, ◌∙◌}
 use borrow.Author.Tests.{le-leb, lt-leb}
 use Rattle.definition.specs.Refusals.{passes}
+use Rattle.input.proofs.Verdicts.{ok_passes}
 use Rattle.machine.specs.Ranges.{asked_sound}
 use Rattle.guard.proofs.Chains.{failed, passed}
 use Rattle.guard.proofs.ranges.asked_sound.Goals as goal
@@ -13,7 +14,7 @@ returns-then-within-4 c =
     (passed c.within-then-within.ensures c.if-within-2.true
     (passed refl (le-leb _ _ c.if-a-le-ENTRIES_MOST.true)
     (passed c.within-then-a-le-ENTRIES_MOST.ensures c.if-within-3.true
-    (passed c.within-then-within-3.ensures c.if-within-4.true (ap passes c.test_seed_std-seed_std.ensures)))))
+    (passed c.within-then-within-3.ensures c.if-within-4.true (c.is_ok.ensures.value ∙ ok_passes _ ∙ ap passes c.test_seed_std.ensures)))))
 
 pub returns-else-within-4 : goal.returns-else-within-4
 unfolding asked_sound

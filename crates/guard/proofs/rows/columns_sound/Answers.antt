@@ -37,7 +37,7 @@ pub loop-p-preserved : goal.loop-p-preserved
 loop-p-preserved c =
     let high : ℕ → Bool = λ q. leb c.args.a.rows (get_or c.args.columns.now q 0) in
     let one : ltb (c.args.a.rows - 1) (get_or c.args.columns.now c.loop-p.p 0) ≡ high c.loop-p.p = past_high c.args.a.rows _ c.requires.asked_ready.rows-least in
-    (omega arith, omega arith, omega arith, c.or_past-found.ensures ∙ ap₂ (λ (x y : Bool). x || y) c.loop-p.invariant.3 one ∙ found-more high _ c.loop-p.p (omega arith))
+    (omega arith, omega arith, omega arith, ap₂ (λ (x y : Bool). x || y) c.loop-p.invariant.3 one ∙ found-more high _ c.loop-p.p (omega arith))
 
 pub returns : goal.returns
 unfolding columns_sound

@@ -6,41 +6,27 @@ use lib.ListN.{length}
 use Rattle.definition.specs.Arith.{ieee64}
 use Rattle.definition.specs.Marks as marks
 use Rattle.definition.specs.Refusals.{refused, first_from}
+use Rattle.input.specs.Said.{verdict_in}
+use Rattle.input.proofs.Verdicts.{exits, numbered}
 use Rattle.machine.specs.State.{Lent, chunk_count}
 use Rattle.machine.specs.Ranges.{state_sound, is_open, lists_sound}
 use Rattle.state.specs.Said.{asked_in, state_in, lists_in}
-use Rattle.guard.specs.Rows.{lists_test, other_lengths}
-use Rattle.guard.proofs.Asked.{state-asked}
-use Rattle.guard.proofs.Lengths.{Enough, own_same, lists-same, lists-enough}
-use Rattle.guard.proofs.Verdicts.{close_damaged, close-none, close-short, close-unsound, close-undone, close-taken}
+use Rattle.guard.specs.Rows.{other_lengths}
+use Rattle.guard.proofs.Begun.{begun-same, begun-passed, begun-enough}
+use Rattle.guard.proofs.Lengths.{Enough}
+use Rattle.guard.proofs.Verdicts.{close-begun, close-unsound, close-undone, close-taken}
 use Rattle.guard.proofs.tests.test_close.Goals as goal
-use Rattle.guard.proofs.tests.test_close.Goals.{After-first_undone-lowest, After-lists_sound, After-marks_sound, Else-not-fields_sound, Else-not-is_open, Else-not-lists_sound}
+use Rattle.guard.proofs.tests.test_close.Goals.{In_ok-test_begun, After-marks_sound, After-first_undone-lowest}
 
--- what is known once a test has passed
-sound : (c : Else-not-fields_sound) → state_sound ieee64 (state_in c.args.state) ≡ true
-unfolding state_sound
-sound c = sym c.fields_sound.ensures ∙ c.if-not-fields_sound.false
+-- what the first tests have shown
+passed : (c : In_ok-test_begun) → let s = c.args in (m : Lent ieee64) → m.edge_columns ≡ s.edge_columns.now → other_lengths m ≡ s.lengths
+    → (state_sound ieee64 (state_in s.state) ≡ true) × (is_open ieee64 (state_in s.state) ≡ true)
+    × (lists_sound ieee64 (state_in s.state) (lists_in s.starts.now s.columns.now s.values.now) m s.marks.now ≡ true)
+passed c = let s = c.args in begun-passed (state_in s.state) (lists_in s.starts.now s.columns.now s.values.now) s.edge_columns.now s.marks.now s.lengths c.own_lengths-own.ensures c.in_ok-test_begun.ensures
 
-opened : (c : Else-not-is_open) → is_open ieee64 (state_in c.args.state) ≡ true
-unfolding is_open
-opened c = sym c.is_open.ensures ∙ c.if-not-is_open.false
-
--- the code's test of the lists is the machine's, if the lengths are theirs
-lists : (c : After-lists_sound) → let s = c.args in (m : Lent ieee64) → m.edge_columns ≡ s.edge_columns.now → other_lengths m ≡ s.lengths
-    → c.lists_sound.result ≡ lists_sound ieee64 (state_in s.state) (lists_in s.starts.now s.columns.now s.values.now) m s.marks.now
-lists c m e l =
-    let s = c.args in
-    c.lists_sound.ensures
-    ∙ lists-same (state_in s.state) (lists_in s.starts.now s.columns.now s.values.now) m s.marks.now c.own_lengths-own.result
-    (c.own_lengths-own.ensures ∙ own_same m s.marks.now s.edge_columns.now s.lengths e l)
-
-enough : (c : Else-not-lists_sound) → let s = c.args in
+enough : (c : In_ok-test_begun) → let s = c.args in
     Enough (asked_in s.state.asked) (lists_in s.starts.now s.columns.now s.values.now) (length s.edge_columns.now) (length s.marks.now)
-enough c =
-    let s = c.args in
-    let g = lists_in s.starts.now s.columns.now s.values.now in
-    lists-enough (asked_in s.state.asked) g s.lengths (length s.edge_columns.now) (length s.marks.now)
-    (sym (ap (lists_test (asked_in s.state.asked) g) c.own_lengths-own.ensures) ∙ sym c.lists_sound.ensures ∙ c.if-not-lists_sound.false)
+enough c = let s = c.args in begun-enough (state_in s.state) (lists_in s.starts.now s.columns.now s.values.now) s.edge_columns.now s.marks.now s.lengths c.own_lengths-own.ensures c.in_ok-test_begun.ensures
 
 -- the code's count of chunks is the machine's
 marks-sound : (c : After-marks_sound) → let s = c.args in
@@ -51,40 +37,35 @@ lowest : (c : After-first_undone-lowest) → let s = c.args in
     c.first_undone-lowest.result ≡ first_from (marks.undone s.marks.now) 0 (chunk_count (asked_in s.state.asked))
 lowest c = c.first_undone-lowest.ensures ∙ ap (first_from (marks.undone c.args.marks.now) 0) c.chunk_count-chunks.ensures
 
-pub returns-then-not-fields_sound : goal.returns-then-not-fields_sound
-unfolding state_sound
-returns-then-not-fields_sound c = λ m e l. c.refused.ensures ∙ close_damaged _ _ _ _ (sym c.fields_sound.ensures ∙ c.if-not-fields_sound.true)
-
-pub returns-then-not-is_open : goal.returns-then-not-is_open
-unfolding is_open
-returns-then-not-is_open c = λ m e l. c.refused-then-not-is_open.ensures ∙ close-none _ _ _ _ (sound (goal.at.returns-then-not-is_open c).Else-not-fields_sound) (sym c.is_open.ensures ∙ c.if-not-is_open.true)
-
-pub lists_sound-requires : goal.lists_sound-requires
-lists_sound-requires c = state-asked (state_in c.args.state) (sound (goal.at.lists_sound-requires c).Else-not-fields_sound)
-
-pub returns-then-not-lists_sound : goal.returns-then-not-lists_sound
-returns-then-not-lists_sound c = λ m e l. c.refused-then-not-lists_sound.ensures ∙ close-short _ _ _ _ (sound (goal.at.returns-then-not-lists_sound c).Else-not-fields_sound) (opened (goal.at.returns-then-not-lists_sound c).Else-not-is_open) (sym (lists (goal.at.returns-then-not-lists_sound c).After-lists_sound m e l) ∙ c.if-not-lists_sound.true)
+pub returns-in_err-test_begun : goal.returns-in_err-test_begun
+returns-in_err-test_begun c =
+    let s = c.args in
+    λ m e l. ap verdict_in (exits _ _ c.from_residual.ensures.1)
+    ∙ close-begun _ _ _ _ _ (numbered _) (c.in_err-test_begun.ensures ∙ begun-same (state_in s.state) (lists_in s.starts.now s.columns.now s.values.now) s.edge_columns.now s.marks.now s.lengths c.own_lengths-own.ensures m e l)
 
 pub marks_sound-requires : goal.marks_sound-requires
-marks_sound-requires c = omega (arith, (enough (goal.at.marks_sound-requires c).Else-not-lists_sound).marks, c.chunk_count-chunks.ensures)
+marks_sound-requires c = omega (arith, (enough (goal.at.marks_sound-requires c).In_ok-test_begun).marks, c.chunk_count-chunks.ensures)
 
 pub returns-then-not-marks_sound : goal.returns-then-not-marks_sound
 returns-then-not-marks_sound c =
-    λ m e l. c.refused-then-not-marks_sound.ensures
-    ∙ close-unsound _ _ _ _ (sound (goal.at.returns-then-not-marks_sound c).Else-not-fields_sound) (opened (goal.at.returns-then-not-marks_sound c).Else-not-is_open) (sym (lists (goal.at.returns-then-not-marks_sound c).After-lists_sound m e l) ∙ c.if-not-lists_sound.false) (sym (marks-sound (goal.at.returns-then-not-marks_sound c).After-marks_sound) ∙ c.if-not-marks_sound.true)
+    let at = goal.at.returns-then-not-marks_sound c in
+    λ m e l. let t = passed at.In_ok-test_begun m e l in
+    close-unsound _ _ _ _ t.0 t.1 t.2 (sym (marks-sound at.After-marks_sound) ∙ c.if-not-marks_sound.true)
 
 pub first_undone-lowest-requires : goal.first_undone-lowest-requires
-first_undone-lowest-requires c = omega (arith, (enough (goal.at.first_undone-lowest-requires c).Else-not-lists_sound).marks, c.chunk_count-chunks.ensures)
+first_undone-lowest-requires c = omega (arith, (enough (goal.at.first_undone-lowest-requires c).In_ok-test_begun).marks, c.chunk_count-chunks.ensures)
 
 pub returns-then-lowest-chunks : goal.returns-then-lowest-chunks
 returns-then-lowest-chunks c =
-    let q = lowest (goal.at.returns-then-lowest-chunks c).After-first_undone-lowest in
-    λ m e l. c.refused-then-lowest-chunks.ensures
-    ∙ ap (refused 14) q
-    ∙ close-undone _ _ _ _ (sound (goal.at.returns-then-lowest-chunks c).Else-not-fields_sound) (opened (goal.at.returns-then-lowest-chunks c).Else-not-is_open) (sym (lists (goal.at.returns-then-lowest-chunks c).After-lists_sound m e l) ∙ c.if-not-lists_sound.false) (sym (marks-sound (goal.at.returns-then-lowest-chunks c).After-marks_sound) ∙ c.if-not-marks_sound.false) (omega (arith, q, c.if-lowest-chunks.true, c.chunk_count-chunks.ensures))
+    let at = goal.at.returns-then-lowest-chunks c in
+    let q = lowest at.After-first_undone-lowest in
+    λ m e l. let t = passed at.In_ok-test_begun m e l in
+    ap (refused 14) q
+    ∙ close-undone _ _ _ _ t.0 t.1 t.2 (sym (marks-sound at.After-marks_sound) ∙ c.if-not-marks_sound.false) (omega (arith, q, c.if-lowest-chunks.true, c.chunk_count-chunks.ensures))
 
 pub returns : goal.returns
 returns c =
-    let q = lowest (goal.at.returns c).After-first_undone-lowest in
-    λ m e l. c.refused-2.ensures
-    ∙ close-taken _ _ _ _ (sound (goal.at.returns c).Else-not-fields_sound) (opened (goal.at.returns c).Else-not-is_open) (sym (lists (goal.at.returns c).After-lists_sound m e l) ∙ c.if-not-lists_sound.false) (sym (marks-sound (goal.at.returns c).After-marks_sound) ∙ c.if-not-marks_sound.false) (omega (arith, q, c.if-lowest-chunks.false, c.chunk_count-chunks.ensures))
+    let at = goal.at.returns c in
+    let q = lowest at.After-first_undone-lowest in
+    λ m e l. let t = passed at.In_ok-test_begun m e l in
+    close-taken _ _ _ _ t.0 t.1 t.2 (sym (marks-sound at.After-marks_sound) ∙ c.if-not-marks_sound.false) (omega (arith, q, c.if-lowest-chunks.false, c.chunk_count-chunks.ensures))
