@@ -12,6 +12,10 @@ use Rattle.definition.specs.Arith.{Arith}
 use Rattle.definition.specs.Memory.{wholes_of}
 use Rattle.definition.specs.Numbers.{Params, chunks, lent_sizes, lent_size, lent_count}
 use Rattle.definition.specs.Refusals.{Verdict, accepted, given, or_else, passes, first_from, test_dims, test_graph, test_params, test_lent, test_request}
+use Rattle.std.specs.Prelude.{Result, is_err}
+use Rattle.input.specs.declared.refusal.Refusal.{Refusal}
+use Rattle.input.specs.Said.{verdict_in}
+use Rattle.input.proofs.Verdicts.{kept, turned_down}
 use Rattle.input.proofs.Accepted.{request_valid}
 use Rattle.held.specs.Marks.{cleared}
 use Rattle.machine.specs.State.{stage_of, chunk_count, Lists, State, Lent, with_record, lengths_of, opened_state, empty_state}
@@ -30,6 +34,14 @@ module _ {v t : Verdict} (e : v ≡ t) where
 
   other_refuses : (v.number ≡ 0 → ⊥) → passes t ≡ false
   other_refuses h = ne_eqb t.number 0 (λ z. h (ap (λ (w : Verdict). w.number) e ∙ z))
+
+-- and the code asks its test's answer r whether it passes
+module _ {v : Verdict} (r : Result Unit Refusal) (e : v ≡ verdict_in r) where
+  pub no_refusal : is_err r ≡ false → v.number ≡ 0
+  no_refusal h = ap (λ (w : Verdict). w.number) e ∙ kept r h
+
+  pub a_refusal : is_err r ≡ true → v.number ≡ 0 → ⊥
+  a_refusal h z = turned_down r h (sym (ap (λ (w : Verdict). w.number) e) ∙ z)
 
 -- ---- a request with number 0 is accepted: the last test decides
 given-none : (fault : Bool) (r p : ℕ) → (given fault (suc r) p).number ≡ 0 → given fault (suc r) p ≡ accepted

@@ -8,6 +8,7 @@ ghost use Rattle.state.specs.Said.{state_in, lists_in, lent_in, lent_all, outcom
 ghost use Rattle.stages.specs.Parts.{parts_in};
 
 use columns::marks::set_mark;
+use input::Verdict;
 use state::{Answer, Asked, Progress, State};
 
 // A chunk without its tests, for a caller that has shown what they ask: of the state the parts that a chunk's work reads.
@@ -105,7 +106,7 @@ pub fn chunk(
         output.len(),
         ritz_record.len(),
     ];
-    let verdict = guard::test_chunk(
+    let tested = guard::test_chunk(
         state,
         number,
         starts,
@@ -115,7 +116,8 @@ pub fn chunk(
         &marks[..],
         lengths,
     );
-    let is_refused = verdict.number != 0;
+    let verdict = Verdict::from(tested);
+    let is_refused = tested.is_err();
     if is_refused {
         return Answer { verdict, state };
     }

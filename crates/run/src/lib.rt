@@ -2,6 +2,8 @@
 // calls and go on from them. Every call ends; bad input is refused by document 01's number and place, and a refused call changes no lent
 // number. What the calls come to together is proved in crate `promises`.
 //
+// The three calls answer a record and no `Result`: it is what C gets of `threshcinch_open`, `_chunk` and `_close`, with a state beside a refusal too.
+//
 // Argument order: what is asked, the graph (starts, columns, values), the lent memory in document 01's order 0 to 10.
 #![tactic(auto)]
 

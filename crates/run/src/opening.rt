@@ -7,7 +7,7 @@ ghost use Rattle.machine.specs.Calls.{open_call};
 ghost use Rattle.state.specs.Said.{asked_in, state_in, lists_in, lent_all, outcome_in};
 
 use columns::marks::clear_marks;
-use input::SpectralParams;
+use input::{SpectralParams, Verdict};
 use state::{Answer, Asked, Counts, Progress, State};
 
 // At a stage, with nothing done yet: all numbers are 0 but the filter's first bound and the alpha that it sets.
@@ -119,8 +119,9 @@ pub fn open(
         output.len(),
         ritz_record.len(),
     ];
-    let verdict = input::test_request(d, params, starts, columns, values, lengths);
-    if verdict.number != 0 {
+    let tested = input::test_request(d, params, starts, columns, values, lengths);
+    let verdict = Verdict::from(tested);
+    if tested.is_err() {
         let state = empty_state();
         return Answer { verdict, state };
     }

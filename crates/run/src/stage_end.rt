@@ -9,6 +9,7 @@ ghost use Rattle.machine.specs.Calls.{close_call};
 ghost use Rattle.state.specs.Said.{asked_in, state_in, lists_in, lent_all, outcome_in};
 
 use columns::marks::clear_marks;
+use input::Verdict;
 use state::{Answer, State};
 
 // Closing without its tests, for a caller that has shown what they ask.
@@ -72,7 +73,7 @@ pub fn close(
         output.len(),
         ritz_record.len(),
     ];
-    let verdict = guard::test_close(
+    let tested = guard::test_close(
         state,
         starts,
         columns,
@@ -81,7 +82,8 @@ pub fn close(
         &marks[..],
         lengths,
     );
-    if verdict.number != 0 {
+    let verdict = Verdict::from(tested);
+    if tested.is_err() {
         return Answer { verdict, state };
     }
     let next = close_stage(state, v0, partials, marks, ritz_record);

@@ -1,5 +1,5 @@
 -- A refused request leaves all as it is, an accepted one clears its marks.
-use mathlib.Core.Path.{◌≡◌, ap, ◌∙◌}
+use mathlib.Core.Path.{◌≡◌, sym, ap, ◌∙◌}
 use Prim.Native.Nat.{ℕ, ◌-◌}
 use native.Mathlib.Omega.{arith}
 use lib.ListN.{length}
@@ -8,27 +8,27 @@ use Rattle.definition.specs.Numbers.{chunks}
 use Rattle.input.specs.Said.{verdict_of, params_of}
 use Rattle.held.specs.Marks.{cleared}
 use Rattle.state.specs.Said.{lists_in, lent_all}
-use Rattle.run.proofs.Paths.{test_open, open_marks, open_refused, open_taken}
+use Rattle.run.proofs.Paths.{no_refusal, a_refusal, test_open, open_marks, open_refused, open_taken}
 use Rattle.run.proofs.opening.open.Goals as goal
-use Rattle.run.proofs.opening.open.Goals.{After-test_request-verdict, After-chunk_count}
+use Rattle.run.proofs.opening.open.Goals.{After-from-verdict, After-chunk_count}
 
 -- what the code found is the machine's test
-found : (t : After-test_request-verdict) → let a = t.args in
-    verdict_of t.test_request-verdict.result
+found : (t : After-from-verdict) → let a = t.args in
+    verdict_of t.from-verdict.result
     ≡ test_open ieee64 a.d (params_of a.params) (lists_in a.starts.now a.columns.now a.values.now)
     (lent_all a.inverse.now a.v0.now a.edge_columns.now a.edge_weights.now a.block0.now a.block1.now a.block2.now a.partials.now a.output.now a.ritz_record.now) a.marks.now
-found t = t.test_request-verdict.ensures
+found t = t.from-verdict.ensures ∙ t.test_request-tested.ensures
 
 -- the code's count of chunks is the machine's
 counted : (c : After-chunk_count) → c.chunk_count.result ≡ chunks (length c.args.starts.now - 1)
 counted c = c.chunk_count.ensures ∙ ap chunks c.row_count-n.ensures
 
-pub returns-then-verdict-ne0 : goal.returns-then-verdict-ne0
-returns-then-verdict-ne0 c =
+pub returns-then-is_err : goal.returns-then-is_err
+returns-then-is_err c =
     let a = c.args in
     open_refused ieee64 a.d (params_of a.params) (lists_in a.starts.now a.columns.now a.values.now)
     (lent_all a.inverse.now a.v0.now a.edge_columns.now a.edge_weights.now a.block0.now a.block1.now a.block2.now a.partials.now a.output.now a.ritz_record.now) a.marks.now
-    (found (goal.at.returns-then-verdict-ne0 c).After-test_request-verdict) c.if-verdict-ne0.true c.empty_state-state.ensures
+    (found (goal.at.returns-then-is_err c).After-from-verdict) (a_refusal _ c.from-verdict.ensures (sym c.is_err.ensures.value ∙ c.if-is_err.true)) c.empty_state-state.ensures
 
 pub clear_marks-requires : goal.clear_marks-requires
 clear_marks-requires c =
@@ -38,7 +38,7 @@ clear_marks-requires c =
       counted (goal.at.clear_marks-requires c).After-chunk_count,
       open_marks ieee64 a.d (params_of a.params) (lists_in a.starts.now a.columns.now a.values.now)
           (lent_all a.inverse.now a.v0.now a.edge_columns.now a.edge_weights.now a.block0.now a.block1.now a.block2.now a.partials.now a.output.now a.ritz_record.now) a.marks.now
-          (found (goal.at.clear_marks-requires c).After-test_request-verdict) c.if-verdict-ne0.false,
+          (found (goal.at.clear_marks-requires c).After-from-verdict) (no_refusal _ c.from-verdict.ensures (sym c.is_err.ensures.value ∙ c.if-is_err.false)),
     )
 
 pub returns : goal.returns
@@ -47,6 +47,6 @@ returns c =
     let a = c.args in
     open_taken ieee64 a.d (params_of a.params) (lists_in a.starts.now a.columns.now a.values.now)
     (lent_all a.inverse.now a.v0.now a.edge_columns.now a.edge_weights.now a.block0.now a.block1.now a.block2.now a.partials.now a.output.now a.ritz_record.now) a.marks.now
-    (found (goal.at.returns c).After-test_request-verdict) c.if-verdict-ne0.false
+    (found (goal.at.returns c).After-from-verdict) (no_refusal _ c.from-verdict.ensures (sym c.is_err.ensures.value ∙ c.if-is_err.false))
     (c.opened_state-state.ensures a.values.now)
     (c.clear_marks.ensures ∙ ap (λ (n : ℕ). cleared n a.marks.now) (counted (goal.at.returns c).After-chunk_count))
