@@ -1,8 +1,8 @@
 use borrow.Author.Tests.{lt-ltb, le-ltb}
 use Rattle.closing.proofs.written.next_column.Goals as goal
 
-pub returns-then-following-k : goal.returns-then-following-k
-returns-then-following-k c = rw (lt-ltb _ _ c.if-following-k.true)
+pub returns-then-following-width : goal.returns-then-following-width
+returns-then-following-width c = rw (← c.width.ensures, lt-ltb _ _ c.if-following-width.true, c.number.ensures)
 
-pub returns : goal.returns
-returns c = rw (le-ltb _ _ c.if-following-k.false)
+pub returns-else-following-width : goal.returns-else-following-width
+returns-else-following-width c = rw (← c.width.ensures, le-ltb _ _ c.if-following-width.false, c.number-else-following-width.ensures)
