@@ -2,7 +2,7 @@ use native.Mathlib.Omega.{arith}
 use borrow.Author.Rules.{rules}
 use Rattle.blocks.specs.Chosen.{chosen}
 use Rattle.blocks.proofs.Chosen.{chosen-third}
-use Rattle.blocks.proofs.choice.pick.Goals as goal
+use Rattle.blocks.proofs.choice.Blocks.pick.Goals as goal
 
 pub returns-in-0 : goal.returns-in-0
 unfolding chosen
