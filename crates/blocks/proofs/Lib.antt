@@ -1,6 +1,6 @@
 -- Laws of the stages' work.
 pub mod Chosen
-pub mod Chunk
+pub mod Own
 pub mod Reductions
 pub mod Writes
 pub mod Passes

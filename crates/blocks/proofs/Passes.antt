@@ -18,7 +18,7 @@ use Rattle.machine.specs.Ready.{AskedReady}
 use Rattle.machine.specs.Work.{own_place, free_block, operator_in, pass_work}
 use Rattle.rows.specs.Pass.{combined_at, Pass}
 use Rattle.blocks.specs.Chosen.{chosen, EdgesReady}
-use Rattle.blocks.proofs.Chunk.{asked-width, span_of}
+use Rattle.blocks.proofs.Own.{asked-width, span_of}
 use Rattle.blocks.proofs.Writes.{put-block}
 
 -- ---- it is one of the three, and neither of the two

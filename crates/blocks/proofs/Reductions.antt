@@ -14,7 +14,7 @@ use Rattle.machine.specs.Work.{own_partial, on_partials, free_block, norm_work, 
 use Rattle.sums.specs.Accumulators.{with_partial, product_term}
 use Rattle.blocks.specs.Chosen.{chosen}
 use Rattle.blocks.proofs.Chosen.{chosen_at}
-use Rattle.blocks.proofs.Chunk.{partial_of}
+use Rattle.blocks.proofs.Own.{partial_of}
 
 -- v is the block of number b
 abbrev Chosen : List Float → ℕ → Lent ieee64 → Type 0

@@ -18,7 +18,7 @@ use Rattle.numbers.specs.declared.Ending.{Ending}
 use Rattle.numbers.specs.Answers.{ending_of}
 use Rattle.blocks.specs.Chosen.{chosen}
 use Rattle.blocks.proofs.Chosen.{chosen_at}
-use Rattle.blocks.proofs.Chunk.{rows_of}
+use Rattle.blocks.proofs.Own.{rows_of}
 
 -- block j is the one of number b
 pub put-block : (j b : ℕ) (m : Lent ieee64) (f : List Float → List Float) {ys : List Float} → b ≡ j → ys ≡ f (block_at ieee64 j m)

@@ -4,153 +4,126 @@ ghost use Rattle.definition.specs.Arith.{ieee64};
 ghost use Rattle.definition.specs.ChebyshevRayleighRitz.{start_block};
 ghost use Rattle.held.specs.Places.{fill_where};
 ghost use Rattle.machine.specs.State.{wide};
-ghost use Rattle.machine.specs.Ready.{AskedReady};
 ghost use Rattle.machine.specs.Work.{own_place, on_block, pass_work};
 ghost use Rattle.numbers.specs.Answers.{multipliers_of};
 ghost use Rattle.rows.specs.Pass.{combined_at, operator_of};
 ghost use Rattle.state.specs.Said.{asked_in, lent_in, lists_in};
 ghost use Rattle.blocks.specs.Chosen.{chosen, BlocksReady, EdgesReady};
 
-use crate::choice;
+use crate::choice::Blocks;
+use crate::chunk::Chunk;
 use numbers::Multipliers;
-use state::Asked;
 
-pub fn start_stage(asked: Asked, h: usize, block0: &mut [f64])
-    requires asked_ready { AskedReady (asked_in asked) }
-    requires asked_in_bounds { asked.rows * wide (asked_in asked) ≤ length block0.old }
-    ensures { (inverse v0 : List Float) (edge_columns : List ℕ) (edge_weights block1 block2 partials output : List Float) →
-        lent_in inverse v0 edge_columns edge_weights block0.new block1 block2 partials output
-        ≡ on_block ieee64 (asked_in asked) 0 (start_block ieee64 (wide (asked_in asked))) h
-        (lent_in inverse v0 edge_columns edge_weights block0.old block1 block2 partials output) }
-{
-    let n = asked.rows;
-    let k = asked.dims + 8;
-    let first = input::first_row(n, h);
-    let end = input::end_row(n, h);
-    rows::start_block_chunk(n, k, first, end, block0);
+// What a pass reads beside the blocks: the row starts, the entries of the chunk's rows, and the inverse weights.
+#[derive(Clone, Copy)]
+pub struct Edges<'a> {
+    pub chunk: Chunk,
+    pub starts: &'a [u64],
+    pub columns: &'a [u32],
+    pub weights: &'a [f64],
+    pub inverse: &'a [f64],
+    ghost ready: { EdgesReady (asked_in chunk.asked) chunk.number starts.now columns.now weights.now inverse.now },
 }
 
-// A pass over the blocks of those numbers, into chunk h of `out`.
-fn pass_block<'a>(
-    asked: Asked,
+pub fn start_stage(chunk: Chunk, block0: &mut [f64])
+    requires asked_in_bounds { chunk.asked.rows * wide (asked_in chunk.asked) ≤ length block0.old }
+    ensures { (inverse v0 : List Float) (edge_columns : List ℕ) (edge_weights block1 block2 partials output : List Float) →
+        lent_in inverse v0 edge_columns edge_weights block0.new block1 block2 partials output
+        ≡ on_block ieee64 (asked_in chunk.asked) 0 (start_block ieee64 (wide (asked_in chunk.asked))) chunk.number
+        (lent_in inverse v0 edge_columns edge_weights block0.old block1 block2 partials output) }
+{
+    let asked = chunk.asked;
+    rows::start_block_chunk(
+        asked.rows,
+        asked.width(),
+        chunk.first(),
+        chunk.end(),
+        block0,
+    );
+}
+
+// A pass over the current block and the one of number `previous`, into the chunk's rows of `out`.
+fn pass_block(
+    edges: Edges<'_>,
+    blocks: Blocks<'_>,
     by: Multipliers,
-    current: usize,
     previous: usize,
-    h: usize,
-    starts: &[u64],
-    edge_columns: &[u32],
-    edge_weights: &[f64],
-    inverse: &[f64],
-    block0: &'a [f64],
-    block1: &'a [f64],
-    block2: &'a [f64],
     out: &mut [f64],
 )
-    requires asked_ready { AskedReady (asked_in asked) }
-    requires edges_ready { EdgesReady (asked_in asked) h starts.now edge_columns.now edge_weights.now inverse.now }
-    requires blocks_ready { BlocksReady (asked_in asked) block0.now block1.now block2.now }
-    requires asked_in_bounds { asked.rows * wide (asked_in asked) ≤ length out.old }
-    ensures { out.new ≡ fill_where (own_place asked.rows (wide (asked_in asked)) h)
-        (combined_at ieee64 asked.rows (wide (asked_in asked))
-        (operator_of ieee64 starts.now edge_columns.now edge_weights.now inverse.now) (multipliers_of by)
-        (chosen current block0.now block1.now block2.now)
-        (chosen previous block0.now block1.now block2.now)) out.old }
+    requires chunk_same { blocks.chunk ≡ edges.chunk }
+    requires asked_in_bounds { edges.chunk.asked.rows * wide (asked_in edges.chunk.asked) ≤ length out.old }
+    ensures { let e = edges.entry in let b = blocks.entry in let n = e.chunk.asked.rows in let k = wide (asked_in e.chunk.asked) in
+        out.new ≡ fill_where (own_place n k e.chunk.number)
+        (combined_at ieee64 n k
+        (operator_of ieee64 e.starts.now e.columns.now e.weights.now e.inverse.now) (multipliers_of by)
+        (chosen e.chunk.progress.current b.block0.now b.block1.now b.block2.now)
+        (chosen previous b.block0.now b.block1.now b.block2.now)) out.old }
 {
-    let n = asked.rows;
-    let k = asked.dims + 8;
-    let first = input::first_row(n, h);
-    let end = input::end_row(n, h);
-    let v = choice::pick(current, block0, block1, block2);
-    let prev = choice::pick(previous, block0, block1, block2);
+    let chunk = edges.chunk;
+    let asked = chunk.asked;
     rows::matvec_combine(
-        n,
-        k,
+        asked.rows,
+        asked.width(),
         by.of_mv,
         by.of_v,
         by.of_prev,
-        first,
-        end,
-        starts,
-        edge_columns,
-        edge_weights,
-        inverse,
-        v,
-        prev,
+        chunk.first(),
+        chunk.end(),
+        edges.starts,
+        edges.columns,
+        edges.weights,
+        edges.inverse,
+        blocks.pick(chunk.progress.current),
+        blocks.pick(previous),
         out,
     );
 }
 
-// A pass over the blocks of those numbers. The block that is written is neither, so another stands in its
+// A pass over the current block and the one of number `previous`. The block that is written is neither, so another stands in its
 // place among those that are read.
 pub fn pass_stage(
-    asked: Asked,
+    edges: Edges<'_>,
     by: Multipliers,
-    current: usize,
     previous: usize,
-    h: usize,
-    starts: &[u64],
-    edge_columns: &[u32],
-    edge_weights: &[f64],
-    inverse: &[f64],
     block0: &mut [f64],
     block1: &mut [f64],
     block2: &mut [f64],
 )
-    requires asked_ready { AskedReady (asked_in asked) }
-    requires current_bound { (current < 3) × (previous < 3) }
-    requires edges_ready { EdgesReady (asked_in asked) h starts.now edge_columns.now edge_weights.now inverse.now }
-    requires blocks_ready { BlocksReady (asked_in asked) block0.old block1.old block2.old }
-    ensures { (columns : List ℕ) (values v0 partials output : List Float) →
-        lent_in inverse.now v0 edge_columns.now edge_weights.now block0.new block1.new block2.new partials output
-        ≡ pass_work ieee64 (asked_in asked) (multipliers_of by) current previous (lists_in starts.now columns values) h
-        (lent_in inverse.now v0 edge_columns.now edge_weights.now block0.old block1.old block2.old partials output) }
+    requires previous_bound { previous < 3 }
+    requires blocks_ready { BlocksReady (asked_in edges.chunk.asked) block0.old block1.old block2.old }
+    ensures { let e = edges.entry in (columns : List ℕ) (values v0 partials output : List Float) →
+        lent_in e.inverse.now v0 e.columns.now e.weights.now block0.new block1.new block2.new partials output
+        ≡ pass_work ieee64 (asked_in e.chunk.asked) (multipliers_of by) e.chunk.progress.current previous (lists_in e.starts.now columns values) e.chunk.number
+        (lent_in e.inverse.now v0 e.columns.now e.weights.now block0.old block1.old block2.old partials output) }
 {
-    let free = state::free_block(current, previous);
-    match free {
-        0 => pass_block(
-            asked,
-            by,
-            current,
-            previous,
-            h,
-            starts,
-            edge_columns,
-            edge_weights,
-            inverse,
-            &block1[..],
-            &block1[..],
-            &block2[..],
-            block0,
-        ),
-        1 => pass_block(
-            asked,
-            by,
-            current,
-            previous,
-            h,
-            starts,
-            edge_columns,
-            edge_weights,
-            inverse,
-            &block0[..],
-            &block2[..],
-            &block2[..],
-            block1,
-        ),
-        _ => pass_block(
-            asked,
-            by,
-            current,
-            previous,
-            h,
-            starts,
-            edge_columns,
-            edge_weights,
-            inverse,
-            &block0[..],
-            &block1[..],
-            &block1[..],
-            block2,
-        ),
+    let chunk = edges.chunk;
+    match state::free_block(chunk.progress.current, previous) {
+        0 => {
+            let blocks = Blocks {
+                chunk,
+                block0: &block1[..],
+                block1: &block1[..],
+                block2: &block2[..],
+            };
+            pass_block(edges, blocks, by, previous, block0)
+        }
+        1 => {
+            let blocks = Blocks {
+                chunk,
+                block0: &block0[..],
+                block1: &block2[..],
+                block2: &block2[..],
+            };
+            pass_block(edges, blocks, by, previous, block1)
+        }
+        _ => {
+            let blocks = Blocks {
+                chunk,
+                block0: &block0[..],
+                block1: &block1[..],
+                block2: &block1[..],
+            };
+            pass_block(edges, blocks, by, previous, block2)
+        }
     }
 }

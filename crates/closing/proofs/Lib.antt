@@ -2,4 +2,3 @@
 pub mod Order
 pub mod Room
 pub mod Round
-pub mod Stages

@@ -1,5 +1,4 @@
 // What closing a stage does: the serial part, where the run goes on, and a round's places of the Ritz record. Document 01, "The held run".
-// A stage is its number in the order of the machine's `Stage` (crates/machine/specs/State.antt).
 #![tactic(auto)]
 
 ghost use Rattle.std.specs.Prelude.{◌≡◌, ◌+◌, ◌*◌, ◌≤◌, length};
@@ -9,7 +8,8 @@ ghost use Rattle.machine.specs.Ready.{StateReady};
 ghost use Rattle.machine.specs.Closing.{closed_by, record_after};
 ghost use Rattle.state.specs.Said.{asked_in, state_in};
 
-use state::State;
+use reduced::Partials;
+use state::{Stage, State};
 
 mod moves; // moves.rt: the stages that only move on, or take a norm, totals or the isolated rows along
 mod passes; // passes.rt: the filter's passes and the plain pass
@@ -29,28 +29,40 @@ pub fn close_stage(state: State, v0: &[f64], partials: &[f64], ritz_record: &mut
     ensures result_value { state_in result ≡ closed_by ieee64 (stage_of state.progress.stage) (state_in state) v0.now partials.now }
     ensures ritz_record_after { ritz_record.new ≡ record_after ieee64 (state_in state) (state_in result) ritz_record.old }
 {
-    let progress = state.progress;
-    let stage = progress.stage;
+    let asked = state.asked;
+    let partials = Partials {
+        asked,
+        numbers: partials,
+    };
+    let stage = Stage::from(state.progress.stage);
     match stage {
-        1 => moves::close_degrees(state, v0),
-        2 => moves::moved_to(state, 3),
-        3 => moves::moved_to(state, 4),
-        4 => moves::moved_to(state, 5),
-        5 => passes::close_filter(state),
-        6 => moves::close_norm_before(state, partials),
-        7 => moves::close_dots(state, 8, partials),
-        8 => moves::moved_to(state, 9),
-        9 => moves::close_dots(state, 10, partials),
-        10 => moves::moved_to(state, 11),
-        11 => moves::close_norm_after(state, partials),
-        12 => written::close_write(state),
-        13 => passes::close_plain(state),
-        14 => rounds::close_products(state, partials, ritz_record),
-        15 => moves::moved_to(state, 16),
-        16 => moves::close_sums(state, partials),
-        17 => moves::moved_to(state, 18),
-        18 => moves::close_squares(state, partials),
-        19 => moves::moved_to(state, 20),
-        _ => state,
+        Stage::Degrees => moves::close_degrees(state, v0),
+        Stage::Edges => moves::moved_to(state, Stage::V0),
+        Stage::V0 => moves::moved_to(state, Stage::StartBlock),
+        Stage::StartBlock => moves::moved_to(state, Stage::FilterPass),
+        Stage::FilterPass => passes::close_filter(state),
+        Stage::NormBefore => moves::close_norm_before(state, partials.norm()),
+        Stage::FirstDots => moves::with_totals(
+            state,
+            Stage::FirstSubtract,
+            partials.totals(state.progress.column + 1),
+        ),
+        Stage::FirstSubtract => moves::moved_to(state, Stage::SecondDots),
+        Stage::SecondDots => moves::with_totals(
+            state,
+            Stage::SecondSubtract,
+            partials.totals(state.progress.column + 1),
+        ),
+        Stage::SecondSubtract => moves::moved_to(state, Stage::NormAfter),
+        Stage::NormAfter => moves::close_norm_after(state, partials.norm()),
+        Stage::Write => written::close_write(state),
+        Stage::PlainPass => passes::close_plain(state),
+        Stage::Products => rounds::close_products(state, partials, ritz_record),
+        Stage::Rotate => moves::moved_to(state, Stage::Sums),
+        Stage::Sums => moves::with_totals(state, Stage::Centre, partials.totals(asked.dims)),
+        Stage::Centre => moves::moved_to(state, Stage::Squares),
+        Stage::Squares => moves::with_totals(state, Stage::Scale, partials.scales()),
+        Stage::Scale => moves::moved_to(state, Stage::Ended),
+        Stage::Empty | Stage::Ended => state,
     }
 }

@@ -7,7 +7,7 @@ ghost use Rattle.machine.specs.Ready.{StateReady};
 ghost use Rattle.machine.specs.Closing.{moved_to, after_filter, pass_counted, with_counts};
 ghost use Rattle.state.specs.Said.{asked_in, progress_in, counts_in, state_in};
 
-use state::{Asked, Progress, State};
+use state::{Asked, Counts, Progress, Stage, State};
 
 // The first pass of a round keeps alpha, which its bound has set.
 fn alpha_after(pass: usize, bound: f64, alpha: f64) -> f64
@@ -29,18 +29,41 @@ fn after_filter(asked: Asked, progress: Progress) -> Progress
     let following = progress.pass + 1;
     let written = state::free_block(current, progress.previous);
     let alpha = alpha_after(progress.pass, progress.bound, progress.alpha);
-    let mut next = progress;
-    next.current = written;
-    next.previous = current;
-    next.alpha = alpha;
+    let next = Progress {
+        current: written,
+        previous: current,
+        alpha,
+        ..progress
+    };
     if following < asked.degree {
-        next.stage = 5;
-        next.pass = following;
-        return next;
+        Progress {
+            stage: Stage::FilterPass.number(),
+            pass: following,
+            ..next
+        }
+    } else {
+        Progress {
+            stage: Stage::NormBefore.number(),
+            pass: 0,
+            ..next
+        }
     }
-    next.stage = 6;
-    next.pass = 0;
-    next
+}
+
+// A pass has ended, and is counted.
+fn pass_closed(state: State, progress: Progress) -> State
+    requires { StateReady ieee64 (state_in state) }
+    ensures { state_in result ≡ with_counts ieee64 (progress_in progress) (pass_counted (counts_in state.counts)) (state_in state) }
+{
+    let counts = Counts {
+        passes: state.counts.passes + 1,
+        ..state.counts
+    };
+    State {
+        progress,
+        counts,
+        ..state
+    }
 }
 
 pub fn close_filter(state: State) -> State
@@ -48,15 +71,7 @@ pub fn close_filter(state: State) -> State
     ensures { state_in result ≡ with_counts ieee64
         (after_filter ieee64 (asked_in state.asked) (progress_in state.progress)) (pass_counted (counts_in state.counts)) (state_in state) }
 {
-    let asked = state.asked;
-    let p = state.progress;
-    let counts = state.counts;
-    let passes = counts.passes + 1;
-    let progress = after_filter(asked, p);
-    let mut next = state;
-    next.progress = progress;
-    next.counts.passes = passes;
-    next
+    pass_closed(state, after_filter(state.asked, state.progress))
 }
 
 // The current block stays, so only the count tells that there was a pass.
@@ -65,10 +80,9 @@ pub fn close_plain(state: State) -> State
     ensures { state_in result ≡ with_counts ieee64
         (moved_to ieee64 14 (progress_in state.progress)) (pass_counted (counts_in state.counts)) (state_in state) }
 {
-    let counts = state.counts;
-    let all_passes = counts.passes + 1;
-    let mut next = state;
-    next.progress.stage = 14;
-    next.counts.passes = all_passes;
-    next
+    let progress = Progress {
+        stage: Stage::Products.number(),
+        ..state.progress
+    };
+    pass_closed(state, progress)
 }

@@ -8,35 +8,42 @@ ghost use Rattle.machine.specs.Closing.{next_column, tried_again, after_write, e
 ghost use Rattle.state.specs.Said.{asked_in, progress_in, counts_in, state_in};
 
 use numbers::Ending;
-use state::{Asked, Progress, State};
+use state::{Asked, Counts, Progress, Stage, State};
 
 // The next column, or after the last one the plain pass.
 fn next_column(asked: Asked, progress: Progress) -> Progress
     requires { (progress.column < wide (asked_in asked)) × (wide (asked_in asked) ≤ 15) }
     ensures { progress_in result ≡ next_column ieee64 (asked_in asked) (progress_in progress) }
 {
-    let k = asked.dims + 8;
     let following = progress.column + 1;
-    let mut next = progress;
-    next.attempt = 0;
-    if following < k {
-        next.stage = 6;
-        next.column = following;
-        return next;
+    let next = Progress {
+        attempt: 0,
+        ..progress
+    };
+    if following < asked.width() {
+        Progress {
+            stage: Stage::NormBefore.number(),
+            column: following,
+            ..next
+        }
+    } else {
+        Progress {
+            stage: Stage::PlainPass.number(),
+            column: 0,
+            ..next
+        }
     }
-    next.stage = 13;
-    next.column = 0;
-    next
 }
 
 // The column again, with fresh numbers.
 fn tried_again(progress: Progress) -> Progress
     ensures { progress_in result ≡ tried_again ieee64 (progress_in progress) }
 {
-    let mut next = progress;
-    next.stage = 6;
-    next.attempt = 1;
-    next
+    Progress {
+        stage: Stage::NormBefore.number(),
+        attempt: 1,
+        ..progress
+    }
 }
 
 pub fn close_write(state: State) -> State
@@ -48,28 +55,30 @@ pub fn close_write(state: State) -> State
     let asked = state.asked;
     let p = state.progress;
     let counts = state.counts;
-    let already = p.attempt == 1;
-    let mut next = state;
-    let end = numbers::collapse_test(p.before, p.norm, already);
+    let end = numbers::collapse_test(p.before, p.norm, p.attempt == 1);
     match end {
-        Ending::Kept(_) => {
-            let progress = next_column(asked, p);
-            next.progress = progress;
-            next
-        }
+        Ending::Kept(_) => State {
+            progress: next_column(asked, p),
+            ..state
+        },
         Ending::Refreshed => {
             let refreshed = counts.refreshed + 1;
-            let progress = tried_again(p);
-            next.progress = progress;
-            next.counts.refreshed = refreshed;
-            next
+            State {
+                progress: tried_again(p),
+                counts: Counts {
+                    refreshed,
+                    ..counts
+                },
+                ..state
+            }
         }
         Ending::Zeroed => {
             let zeroed = counts.zeroed + 1;
-            let progress = next_column(asked, p);
-            next.progress = progress;
-            next.counts.zeroed = zeroed;
-            next
+            State {
+                progress: next_column(asked, p),
+                counts: Counts { zeroed, ..counts },
+                ..state
+            }
         }
     }
 }

@@ -15,7 +15,7 @@ use Rattle.held.proofs.Places.{range_where}
 use Rattle.machine.specs.State.{Asked, Lent, wide, with_output, with_partials}
 use Rattle.machine.specs.Work.{own_row, on_output, on_partials}
 use Rattle.sums.specs.Accumulators.{with_partial}
-use Rattle.blocks.proofs.Chunk.{span_of, rows_of, partial_of}
+use Rattle.blocks.proofs.Own.{span_of, rows_of, partial_of}
 
 -- two lists of a record
 pub two : {A B C : Type 0} (f : A → B → C) {a x : A} {b y : B} → a ≡ x → b ≡ y → f a b ≡ f x y

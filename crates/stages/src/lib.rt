@@ -3,7 +3,7 @@
 #![tactic(auto)]
 
 pub mod setup; // setup.rt: degrees, edges, v0
-pub mod passes; // passes.rt: the filter's passes and the plain pass
+mod passes; // passes.rt: what a filter pass multiplies by
 pub mod output; // output.rt: sums, centre, squares, scale
 
 ghost use Rattle.std.specs.Prelude.{◌≡◌};
@@ -13,9 +13,10 @@ ghost use Rattle.machine.specs.Work.{work};
 ghost use Rattle.state.specs.Said.{lists_in, lent_in};
 ghost use Rattle.stages.specs.Parts.{parts_in};
 
-use state::{Asked, Progress};
+use blocks::{Blocks, Chunk, Edges};
+use state::{Asked, Progress, Stage};
 
-// The work of chunk h in the state's stage, by the stage's number in document 01's order. Of the state it gets the parts that some stage
+// The work of chunk h in the state's stage. Of the state it gets the parts that some stage
 // reads, where they lie, so that no call copies a matrix. Each stage is lent the lists that it reads or writes, and no other; where no run
 // is open there is no work.
 pub fn chunk_work<'a>(
@@ -47,13 +48,22 @@ pub fn chunk_work<'a>(
         (lent_in inverse.old v0.old edge_columns.old edge_weights.old
         block0.old block1.old block2.old partials.old output.old) }
 {
-    let stage = progress.stage;
-    let norm = progress.norm;
+    let chunk = Chunk {
+        asked,
+        progress,
+        number: h,
+    };
+    let blocks = Blocks {
+        chunk,
+        block0: &block0[..],
+        block1: &block1[..],
+        block2: &block2[..],
+    };
+    let stage = Stage::from(progress.stage);
     match stage {
-        1 => setup::degrees_stage(asked, h, starts, values, inverse, v0),
-        2 => setup::edges_stage(
-            asked,
-            h,
+        Stage::Degrees => setup::degrees_stage(chunk, starts, values, inverse, v0),
+        Stage::Edges => setup::edges_stage(
+            chunk,
             starts,
             columns,
             values,
@@ -61,44 +71,44 @@ pub fn chunk_work<'a>(
             edge_columns,
             edge_weights,
         ),
-        3 => setup::v0_stage(asked, norm, h, v0),
-        4 => blocks::start_stage(asked, h, block0),
-        5 => passes::filter_stage(
-            asked,
-            progress,
-            h,
-            starts,
-            edge_columns,
-            edge_weights,
-            inverse,
-            block0,
-            block1,
-            block2,
-        ),
-        6 | 11 => blocks::norm_stage(asked, progress, h, block0, block1, block2, partials),
-        7 | 9 => blocks::dots_stage(asked, progress, h, v0, block0, block1, block2, partials),
-        8 | 10 => blocks::subtract_stage(asked, progress, totals, h, v0, block0, block1, block2),
-        12 => blocks::write_stage(asked, progress, h, block0, block1, block2),
-        13 => passes::plain_stage(
-            asked,
-            progress,
-            h,
-            starts,
-            edge_columns,
-            edge_weights,
-            inverse,
-            block0,
-            block1,
-            block2,
-        ),
-        14 => blocks::products_stage(asked, progress, h, block0, block1, block2, partials),
-        15 => blocks::rotate_stage(
-            asked, progress, vectors, order, h, inverse, block0, block1, block2, output,
-        ),
-        16 => output::sums_stage(asked, h, output, partials),
-        17 => output::centre_stage(asked, totals, h, output),
-        18 => output::squares_stage(asked, h, output, partials),
-        19 => output::scale_stage(asked, totals, h, output),
-        _ => {}
+        Stage::V0 => setup::v0_stage(chunk, v0),
+        Stage::StartBlock => blocks::start_stage(chunk, block0),
+        Stage::FilterPass => {
+            let edges = Edges {
+                chunk,
+                starts,
+                columns: &edge_columns[..],
+                weights: &edge_weights[..],
+                inverse: &inverse[..],
+            };
+            let by = passes::filter_by(progress);
+            let previous = progress.previous;
+            blocks::pass_stage(edges, by, previous, block0, block1, block2)
+        }
+        Stage::NormBefore | Stage::NormAfter => blocks::norm_stage(blocks, partials),
+        Stage::FirstDots | Stage::SecondDots => blocks::dots_stage(blocks, v0, partials),
+        Stage::FirstSubtract | Stage::SecondSubtract => {
+            blocks::subtract_stage(chunk, totals, v0, block0, block1, block2)
+        }
+        Stage::Write => blocks::write_stage(chunk, block0, block1, block2),
+        Stage::PlainPass => {
+            // The current block stands for both.
+            let edges = Edges {
+                chunk,
+                starts,
+                columns: &edge_columns[..],
+                weights: &edge_weights[..],
+                inverse: &inverse[..],
+            };
+            let by = numbers::plain_multipliers();
+            blocks::pass_stage(edges, by, progress.current, block0, block1, block2)
+        }
+        Stage::Products => blocks::products_stage(blocks, partials),
+        Stage::Rotate => blocks::rotate_stage(blocks, vectors, order, inverse, output),
+        Stage::Sums => output::sums_stage(chunk, output, partials),
+        Stage::Centre => output::centre_stage(chunk, totals, output),
+        Stage::Squares => output::squares_stage(chunk, output, partials),
+        Stage::Scale => output::scale_stage(chunk, totals, output),
+        Stage::Empty | Stage::Ended => {}
     }
 }

@@ -2,10 +2,17 @@
 // docs/STATE.md has each field with its meaning, its range and who sets it.
 #![tactic(auto)]
 
-ghost use Rattle.std.specs.Prelude.{◌≡◌, ◌||◌, eqb};
+ghost use Rattle.std.specs.Prelude.{◌≡◌, ◌≤◌, ◌||◌, eqb};
+ghost use Rattle.definition.specs.Numbers.{dims_most};
+ghost use Rattle.machine.specs.State.{wide};
 ghost use Rattle.machine.specs.Work.{free_block};
+ghost use Rattle.state.specs.Said.{asked_in};
 
-use input::Verdict;
+use input::{SpectralParams, Verdict};
+
+mod stage; // stage.rt: the stages, and their numbers
+
+pub use stage::Stage;
 
 // What was asked at the opening.
 #[repr(C)]
@@ -19,7 +26,18 @@ pub struct Asked {
     pub seed_std: f64,
 }
 
-// Where the run is, with the bound and alpha of its filter and the norms of the column at hand.
+impl Asked {
+    // k, the columns of a block.
+    pub fn width(self) -> usize
+        requires { self.dims ≤ dims_most }
+        ensures { result ≡ wide (asked_in self) }
+    {
+        self.dims + SpectralParams::OVERSAMPLING
+    }
+}
+
+// Where the run is, with the bound and alpha of its filter and the norms of the column at hand. The stage is kept by its number, since hosts
+// store the record as it lies (docs/STATE.md).
 #[repr(C)]
 #[derive(Clone, Copy)]
 pub struct Progress {

@@ -1,16 +1,15 @@
 -- Each arm is one stage's work in the whole lent memory.
-use mathlib.Core.Path.{◌≡◌, ap}
-use mathlib.Core.Logic.{◌⊎◌, ⊎_elim, inl, inr}
-use Prim.Native.Nat.{ℕ}
-use native.Mathlib.Omega.{arith}
-use borrow.Author.Rules.{rules}
+use mathlib.Core.Path.{◌≡◌, refl}
+use mathlib.Core.Logic.{⊎_elim}
 use Rattle.definition.specs.Arith.{ieee64}
-use Rattle.machine.specs.State.{stage_of, Lists, State, Lent}
-use Rattle.machine.specs.Ranges.{reads_starts, reads_edges}
+use Rattle.machine.specs.State.{Lists, State, Lent}
 use Rattle.machine.specs.Work.{work_by, work}
-use Rattle.state.specs.Said.{lists_in, lent_in}
+use Rattle.state.specs.declared.stage.Stage.{Stage}
+use Rattle.state.specs.declared.stage.Stage.TheVariants as at
+use Rattle.state.specs.Said.{asked_in, lists_in, lent_in}
+use Rattle.state.specs.Stages.{stage_in, StageAt}
 use Rattle.stages.specs.Parts.{parts_in}
-use Rattle.stages.proofs.Arms.{blocks_ready, edges_ready, none_of, arm, idle_arm}
+use Rattle.stages.proofs.Arms.{pass-by, arm}
 use Rattle.stages.proofs.chunk_work.Goals as goal
 use Rattle.stages.proofs.chunk_work.Goals.{Start}
 
@@ -28,274 +27,129 @@ lent s =
     lent_in a.inverse.now a.v0.now a.edge_columns.now a.edge_weights.now a.block0.now a.block1.now a.block2.now a.partials.now
     a.output.now
 
--- the work of the stage of number k is what is asked, where that is the state's
-at_stage : (s : Start) (k : ℕ) {after : Lent ieee64} → s.args.progress.stage ≡ k
-    → after ≡ work_by ieee64 (stage_of k) (parts s) (graph s) s.args.h (lent s)
+-- the work of the stage t is what is asked, where that is the state's
+at_stage : (s : Start) (t : Stage) {r : Stage} {after : Lent ieee64} → StageAt s.args.progress.stage r → r ≡ t
+    → after ≡ work_by ieee64 (stage_in t) (parts s) (graph s) s.args.h (lent s)
     → after ≡ work ieee64 (parts s) (graph s) s.args.h (lent s)
-at_stage s k p w = arm (parts s) (graph s) s.args.h (lent s) k p w
+at_stage s t e p w = arm (parts s) (graph s) s.args.h (lent s) t e p w
 
-pub degrees_stage-requires : goal.degrees_stage-requires
-degrees_stage-requires c =
-    record {
-      starts = c.requires.rows.starts (ap reads_starts c.in-1.is);
-      entries_in_bounds = (c.requires.lists.values, c.requires.lent.inverse, c.requires.lent.v0);
-    }
-
-pub edges_stage-requires : goal.edges_stage-requires
-edges_stage-requires c =
-    record {
-      asked_ready = c.requires.state.asked;
-      starts = c.requires.rows.starts (ap reads_starts c.in-2.is);
-      columns = c.requires.rows.columns c.in-2.is;
-      entries_in_bounds = (c.requires.lists.columns, c.requires.lists.values, c.requires.lent.inverse);
-      entries_in_bounds_2 = (c.requires.lent.edge_columns, c.requires.lent.edge_weights);
-    }
-
-pub v0_stage-requires : goal.v0_stage-requires
-v0_stage-requires c = c.requires.lent.v0
-
-pub start_stage-requires : goal.start_stage-requires
-start_stage-requires c =
-    record {
-      asked_ready = c.requires.state.asked;
-      asked_in_bounds = c.requires.lent.block0;
-    }
-
-pub filter_stage-requires : goal.filter_stage-requires
-filter_stage-requires c =
-    record {
-      asked_ready = c.requires.state.asked;
-      progress_ready = c.requires.state.progress;
-      edges_ready = edges_ready c.requires (ap reads_starts c.in-5.is) (ap reads_edges c.in-5.is);
-      blocks_ready = blocks_ready c.requires.lent;
-    }
-
-pub norm_stage-requires : goal.norm_stage-requires
-norm_stage-requires c =
-    record {
-      asked_ready = c.requires.state.asked;
-      progress_ready = c.requires.state.progress;
-      h_bound = (c.requires.chunk, c.requires.lent.partials);
-      blocks_ready = blocks_ready c.requires.lent;
-    }
-
-pub dots_stage-requires : goal.dots_stage-requires
-dots_stage-requires c =
-    record {
-      asked_ready = c.requires.state.asked;
-      progress_ready = c.requires.state.progress;
-      h_bound = (c.requires.chunk, c.requires.lent.partials);
-      rows_in_bounds = c.requires.lent.v0;
-      blocks_ready = blocks_ready c.requires.lent;
-    }
-
-pub subtract_stage-requires : goal.subtract_stage-requires
-subtract_stage-requires c =
-    record {
-      asked_ready = c.requires.state.asked;
-      progress_ready = c.requires.state.progress;
-      rows_in_bounds = c.requires.lent.v0;
-      blocks_ready = blocks_ready c.requires.lent;
-    }
-
-pub write_stage-requires : goal.write_stage-requires
-write_stage-requires c =
-    record {
-      asked_ready = c.requires.state.asked;
-      progress_ready = c.requires.state.progress;
-      blocks_ready = blocks_ready c.requires.lent;
-    }
-
-pub plain_stage-requires : goal.plain_stage-requires
-plain_stage-requires c =
-    record {
-      asked_ready = c.requires.state.asked;
-      progress_ready = c.requires.state.progress;
-      edges_ready = edges_ready c.requires (ap reads_starts c.in-13.is) (ap reads_edges c.in-13.is);
-      blocks_ready = blocks_ready c.requires.lent;
-    }
-
-pub products_stage-requires : goal.products_stage-requires
-products_stage-requires c =
-    record {
-      asked_ready = c.requires.state.asked;
-      h_bound = (c.requires.chunk, c.requires.lent.partials);
-      blocks_ready = blocks_ready c.requires.lent;
-    }
-
-pub rotate_stage-requires : goal.rotate_stage-requires
-rotate_stage-requires c =
-    record {
-      asked_ready = c.requires.state.asked;
-      by_index = c.requires.state.order;
-      rows_in_bounds = (c.requires.lent.inverse, c.requires.lent.output);
-      blocks_ready = blocks_ready c.requires.lent;
-    }
-
-pub sums_stage-requires : goal.sums_stage-requires
-sums_stage-requires c =
-    record {
-      asked_ready = c.requires.state.asked;
-      h_bound = (c.requires.chunk, c.requires.lent.output, c.requires.lent.partials);
-    }
-
-pub centre_stage-requires : goal.centre_stage-requires
-centre_stage-requires c =
-    record {
-      asked_ready = c.requires.state.asked;
-      dims_in_bounds = c.requires.lent.output;
-    }
-
-pub squares_stage-requires : goal.squares_stage-requires
-squares_stage-requires c =
-    record {
-      asked_ready = c.requires.state.asked;
-      h_bound = (c.requires.chunk, c.requires.lent.output, c.requires.lent.partials);
-    }
-
-pub scale_stage-requires : goal.scale_stage-requires
-scale_stage-requires c =
-    record {
-      asked_ready = c.requires.state.asked;
-      dims_in_bounds = c.requires.lent.output;
-    }
-
-pub returns-in-1 : goal.returns-in-1
-returns-in-1 c =
-    let s = (goal.at.returns-in-1 c).Start in
+pub returns-in-Degrees : goal.returns-in-Degrees
+returns-in-Degrees c =
+    let s = (goal.at.returns-in-Degrees c).Start in
     let m = lent s in
-    at_stage s 1 c.in-1.is
+    at_stage s at.Degrees c.from-stage.ensures c.in-Degrees.is
     (c.degrees_stage.ensures (graph s).columns m.edge_columns m.edge_weights m.block0 m.block1 m.block2 m.partials m.output)
 
-pub returns-in-2 : goal.returns-in-2
-returns-in-2 c =
-    let s = (goal.at.returns-in-2 c).Start in
+pub returns-in-Edges : goal.returns-in-Edges
+returns-in-Edges c =
+    let s = (goal.at.returns-in-Edges c).Start in
     let m = lent s in
-    at_stage s 2 c.in-2.is
+    at_stage s at.Edges c.from-stage.ensures c.in-Edges.is
     (c.edges_stage.ensures m.v0 m.block0 m.block1 m.block2 m.partials m.output)
 
-pub returns-in-3 : goal.returns-in-3
-returns-in-3 c =
-    let s = (goal.at.returns-in-3 c).Start in
+pub returns-in-V0 : goal.returns-in-V0
+returns-in-V0 c =
+    let s = (goal.at.returns-in-V0 c).Start in
     let m = lent s in
-    at_stage s 3 c.in-3.is
+    at_stage s at.V0 c.from-stage.ensures c.in-V0.is
     (c.v0_stage.ensures m.inverse m.edge_columns m.edge_weights m.block0 m.block1 m.block2 m.partials m.output)
 
-pub returns-in-4 : goal.returns-in-4
-returns-in-4 c =
-    let s = (goal.at.returns-in-4 c).Start in
+pub returns-in-StartBlock : goal.returns-in-StartBlock
+returns-in-StartBlock c =
+    let s = (goal.at.returns-in-StartBlock c).Start in
     let m = lent s in
-    at_stage s 4 c.in-4.is
+    at_stage s at.StartBlock c.from-stage.ensures c.in-StartBlock.is
     (c.start_stage.ensures m.inverse m.v0 m.edge_columns m.edge_weights m.block1 m.block2 m.partials m.output)
 
-pub returns-in-5 : goal.returns-in-5
-returns-in-5 c =
-    let s = (goal.at.returns-in-5 c).Start in
-    let m = lent s in
-    at_stage s 5 c.in-5.is
-    (c.filter_stage.ensures (graph s).columns (graph s).values m.v0 m.partials m.output)
-
-pub returns-in-6 : goal.returns-in-6
-returns-in-6 c =
-    let s = (goal.at.returns-in-6 c).Start in
+pub returns-in-NormBefore : goal.returns-in-NormBefore
+returns-in-NormBefore c =
+    let s = (goal.at.returns-in-NormBefore c).Start in
     let m = lent s in
     let done = c.norm_stage.ensures m.inverse m.v0 m.edge_columns m.edge_weights m.output in
-    ⊎_elim (λ k. at_stage s 6 k done) (λ k. at_stage s 11 k done) c.in-6.is
+    ⊎_elim (λ k. at_stage s at.NormBefore c.from-stage.ensures k done) (λ k. at_stage s at.NormAfter c.from-stage.ensures k done) c.in-NormBefore.is
 
-pub returns-in-7 : goal.returns-in-7
-returns-in-7 c =
-    let s = (goal.at.returns-in-7 c).Start in
+pub returns-in-FirstDots : goal.returns-in-FirstDots
+returns-in-FirstDots c =
+    let s = (goal.at.returns-in-FirstDots c).Start in
     let m = lent s in
     let done = c.dots_stage.ensures m.inverse m.edge_columns m.edge_weights m.output in
-    ⊎_elim (λ k. at_stage s 7 k done) (λ k. at_stage s 9 k done) c.in-7.is
+    ⊎_elim (λ k. at_stage s at.FirstDots c.from-stage.ensures k done) (λ k. at_stage s at.SecondDots c.from-stage.ensures k done) c.in-FirstDots.is
 
-pub returns-in-8 : goal.returns-in-8
-returns-in-8 c =
-    let s = (goal.at.returns-in-8 c).Start in
+pub returns-in-FirstSubtract : goal.returns-in-FirstSubtract
+returns-in-FirstSubtract c =
+    let s = (goal.at.returns-in-FirstSubtract c).Start in
     let m = lent s in
     let done = c.subtract_stage.ensures m.inverse m.edge_columns m.edge_weights m.partials m.output in
-    ⊎_elim (λ k. at_stage s 8 k done) (λ k. at_stage s 10 k done) c.in-8.is
+    ⊎_elim (λ k. at_stage s at.FirstSubtract c.from-stage.ensures k done) (λ k. at_stage s at.SecondSubtract c.from-stage.ensures k done) c.in-FirstSubtract.is
 
-pub returns-in-12 : goal.returns-in-12
-returns-in-12 c =
-    let s = (goal.at.returns-in-12 c).Start in
+pub returns-in-Write : goal.returns-in-Write
+returns-in-Write c =
+    let s = (goal.at.returns-in-Write c).Start in
     let m = lent s in
-    at_stage s 12 c.in-12.is
+    at_stage s at.Write c.from-stage.ensures c.in-Write.is
     (c.write_stage.ensures m.inverse m.v0 m.edge_columns m.edge_weights m.partials m.output)
 
-pub returns-in-13 : goal.returns-in-13
-returns-in-13 c =
-    let s = (goal.at.returns-in-13 c).Start in
+pub returns-in-Products : goal.returns-in-Products
+returns-in-Products c =
+    let s = (goal.at.returns-in-Products c).Start in
     let m = lent s in
-    at_stage s 13 c.in-13.is
-    (c.plain_stage.ensures (graph s).columns (graph s).values m.v0 m.partials m.output)
-
-pub returns-in-14 : goal.returns-in-14
-returns-in-14 c =
-    let s = (goal.at.returns-in-14 c).Start in
-    let m = lent s in
-    at_stage s 14 c.in-14.is
+    at_stage s at.Products c.from-stage.ensures c.in-Products.is
     (c.products_stage.ensures m.inverse m.v0 m.edge_columns m.edge_weights m.output)
 
-pub returns-in-15 : goal.returns-in-15
-returns-in-15 c =
-    let s = (goal.at.returns-in-15 c).Start in
+pub returns-in-Rotate : goal.returns-in-Rotate
+returns-in-Rotate c =
+    let s = (goal.at.returns-in-Rotate c).Start in
     let m = lent s in
-    at_stage s 15 c.in-15.is
+    at_stage s at.Rotate c.from-stage.ensures c.in-Rotate.is
     (c.rotate_stage.ensures m.v0 m.edge_columns m.edge_weights m.partials)
 
-pub returns-in-16 : goal.returns-in-16
-returns-in-16 c =
-    let s = (goal.at.returns-in-16 c).Start in
+pub returns-in-Sums : goal.returns-in-Sums
+returns-in-Sums c =
+    let s = (goal.at.returns-in-Sums c).Start in
     let m = lent s in
-    at_stage s 16 c.in-16.is
+    at_stage s at.Sums c.from-stage.ensures c.in-Sums.is
     (c.sums_stage.ensures m.inverse m.v0 m.edge_columns m.edge_weights m.block0 m.block1 m.block2)
 
-pub returns-in-17 : goal.returns-in-17
-returns-in-17 c =
-    let s = (goal.at.returns-in-17 c).Start in
+pub returns-in-Centre : goal.returns-in-Centre
+returns-in-Centre c =
+    let s = (goal.at.returns-in-Centre c).Start in
     let m = lent s in
-    at_stage s 17 c.in-17.is
+    at_stage s at.Centre c.from-stage.ensures c.in-Centre.is
     (c.centre_stage.ensures m.inverse m.v0 m.edge_columns m.edge_weights m.block0 m.block1 m.block2 m.partials)
 
-pub returns-in-18 : goal.returns-in-18
-returns-in-18 c =
-    let s = (goal.at.returns-in-18 c).Start in
+pub returns-in-Squares : goal.returns-in-Squares
+returns-in-Squares c =
+    let s = (goal.at.returns-in-Squares c).Start in
     let m = lent s in
-    at_stage s 18 c.in-18.is
+    at_stage s at.Squares c.from-stage.ensures c.in-Squares.is
     (c.squares_stage.ensures m.inverse m.v0 m.edge_columns m.edge_weights m.block0 m.block1 m.block2)
 
-pub returns-in-19 : goal.returns-in-19
-returns-in-19 c =
-    let s = (goal.at.returns-in-19 c).Start in
+pub returns-in-Scale : goal.returns-in-Scale
+returns-in-Scale c =
+    let s = (goal.at.returns-in-Scale c).Start in
     let m = lent s in
-    at_stage s 19 c.in-19.is
+    at_stage s at.Scale c.from-stage.ensures c.in-Scale.is
     (c.scale_stage.ensures m.inverse m.v0 m.edge_columns m.edge_weights m.block0 m.block1 m.block2 m.partials)
 
-pub returns-in_default : goal.returns-in_default
-returns-in_default c =
-    let s = (goal.at.returns-in_default c).Start in
-    let not6 : (s.args.progress.stage ≡ 6) ⊎ (s.args.progress.stage ≡ 11) → ⊥ = search rules in
-    let not7 : (s.args.progress.stage ≡ 7) ⊎ (s.args.progress.stage ≡ 9) → ⊥ = search rules in
-    let not8 : (s.args.progress.stage ≡ 8) ⊎ (s.args.progress.stage ≡ 10) → ⊥ = search rules in
-    idle_arm (parts s) (graph s) s.args.h (lent s)
-    (none_of s.args.progress.stage
-    (λ e. omega arith)
-    (λ e. omega arith)
-    (λ e. omega arith)
-    (λ e. omega arith)
-    (λ e. omega arith)
-    (λ e. not6 (inl e))
-    (λ e. not7 (inl e))
-    (λ e. not8 (inl e))
-    (λ e. not7 (inr e))
-    (λ e. not8 (inr e))
-    (λ e. not6 (inr e))
-    (λ e. omega arith)
-    (λ e. omega arith)
-    (λ e. omega arith)
-    (λ e. omega arith)
-    (λ e. omega arith)
-    (λ e. omega arith)
-    (λ e. omega arith)
-    (λ e. omega arith))
+pub returns-in-FilterPass : goal.returns-in-FilterPass
+returns-in-FilterPass c =
+    let s = (goal.at.returns-in-FilterPass c).Start in
+    let m = lent s in
+    let p = c.args.progress in
+    at_stage s at.FilterPass c.from-stage.ensures c.in-FilterPass.is
+    (pass-by (asked_in c.args.asked) p.current p.previous (graph s) s.args.h m c.filter_by-by.ensures
+    (c.pass_stage.ensures (graph s).columns (graph s).values m.v0 m.partials m.output))
+
+pub returns-in-PlainPass : goal.returns-in-PlainPass
+returns-in-PlainPass c =
+    let s = (goal.at.returns-in-PlainPass c).Start in
+    let m = lent s in
+    let p = c.args.progress in
+    at_stage s at.PlainPass c.from-stage.ensures c.in-PlainPass.is
+    (pass-by (asked_in c.args.asked) p.current p.current (graph s) s.args.h m c.plain_multipliers-by.ensures
+    (c.pass_stage-in-PlainPass.ensures (graph s).columns (graph s).values m.v0 m.partials m.output))
+
+pub returns-in-Empty : goal.returns-in-Empty
+returns-in-Empty c =
+    let s = (goal.at.returns-in-Empty c).Start in
+    ⊎_elim (λ k. at_stage s at.Empty c.from-stage.ensures k refl) (λ k. at_stage s at.Ended c.from-stage.ensures k refl) c.in-Empty.is

@@ -6,20 +6,20 @@ use Rattle.blocks.proofs.column.write_stage.Goals as goal
 pub returns-in-0 : goal.returns-in-0
 returns-in-0 c =
     λ inverse v0 columns weights partials output.
-    write_lent (asked_in c.args.asked) (progress_in c.args.progress) c.args.h
+    write_lent (asked_in c.args.chunk.asked) (progress_in c.args.chunk.progress) c.args.chunk.number
     (lent_in inverse v0 columns weights c.args.block0.now c.args.block1.now c.args.block2.now partials output)
     0 c.in-0.is c.write_block.ensures
 
 pub returns-in-1 : goal.returns-in-1
 returns-in-1 c =
     λ inverse v0 columns weights partials output.
-    write_lent (asked_in c.args.asked) (progress_in c.args.progress) c.args.h
+    write_lent (asked_in c.args.chunk.asked) (progress_in c.args.chunk.progress) c.args.chunk.number
     (lent_in inverse v0 columns weights c.args.block0.now c.args.block1.now c.args.block2.now partials output)
     1 c.in-1.is c.write_block-in-1.ensures
 
 pub returns-in_default : goal.returns-in_default
 returns-in_default c =
     λ inverse v0 columns weights partials output.
-    write_lent (asked_in c.args.asked) (progress_in c.args.progress) c.args.h
+    write_lent (asked_in c.args.chunk.asked) (progress_in c.args.chunk.progress) c.args.chunk.number
     (lent_in inverse v0 columns weights c.args.block0.now c.args.block1.now c.args.block2.now partials output)
-    2 (omega (arith, c.requires.progress_ready.current)) c.write_block-in_default.ensures
+    2 (omega (arith, c.args.chunk.progress_ready.current)) c.write_block-in_default.ensures

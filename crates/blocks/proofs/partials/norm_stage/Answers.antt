@@ -2,34 +2,31 @@ use native.Mathlib.Omega.{arith}
 use Rattle.machine.specs.State.{wide, chunk_count}
 use Rattle.state.specs.Said.{asked_in, progress_in, lent_in}
 use Rattle.blocks.proofs.Chosen.{chosen-enough}
-use Rattle.definition.proofs.Places.{square-least, square-most}
-use Rattle.blocks.proofs.Chunk.{asked-width, partial_end, span_of}
+use Rattle.definition.proofs.Places.{square-least}
+use Rattle.blocks.proofs.Own.{asked-width, partial_end, span_of}
 use Rattle.blocks.proofs.Reductions.{norm-lent}
 use Rattle.blocks.proofs.partials.norm_stage.Goals as goal
 
-pub overflow_mul-k : goal.overflow_mul-k
-overflow_mul-k c = omega (arith, square-most (wide (asked_in c.args.asked)) (asked-width c.requires.asked_ready).most)
-
-pub overflow_mul-h : goal.overflow_mul-h
-overflow_mul-h c =
-    let a = asked_in c.args.asked in
-    omega (arith, partial_end c.args.h (wide a) (chunk_count a) c.requires.h_bound.0 c.requires.h_bound.1)
-
 pub norm_partial-requires : goal.norm_partial-requires
 norm_partial-requires c =
-    let a = asked_in c.args.asked in record {
-      span = span_of _ _ c.first_row-first.ensures c.end_row-end.ensures;
-      width = asked-width c.requires.asked_ready;
+    let b = c.args.blocks in
+    let h = b.chunk in
+    let a = asked_in h.asked in
+    rw (c.width.ensures, c.partial.ensures)
+    (record {
+      span = span_of _ _ c.first.ensures c.end.ensures;
+      width = asked-width h.asked_ready;
       c_lt_k = (
-        c.requires.progress_ready.column,
-        chosen-enough _ c.requires.blocks_ready c.pick-v.ensures,
-        omega (arith, square-least (wide a) (omega arith), partial_end c.args.h (wide a) (chunk_count a) c.requires.h_bound.0 c.requires.h_bound.1),
+        h.progress_ready.column,
+        chosen-enough _ b.ready c.pick.ensures,
+        omega (arith, square-least (wide a) (omega arith), partial_end h.number (wide a) (chunk_count a) h.one_of c.requires),
       );
-    }
+    })
 
 pub returns : goal.returns
 returns c =
+    let b = c.args.blocks in
     λ inverse v0 columns weights output.
-    norm-lent (asked_in c.args.asked) c.args.h
-    (lent_in inverse v0 columns weights c.args.block0.now c.args.block1.now c.args.block2.now c.args.partials.now output)
-    c.first_row-first.ensures c.end_row-end.ensures (progress_in c.args.progress) c.pick-v.ensures c.norm_partial.ensures
+    norm-lent (asked_in b.chunk.asked) b.chunk.number
+    (lent_in inverse v0 columns weights b.block0.now b.block1.now b.block2.now c.args.partials.now output)
+    c.first.ensures c.end.ensures (progress_in b.chunk.progress) c.pick.ensures (rw (c.width.ensures, c.partial.ensures) at c.norm_partial.ensures)

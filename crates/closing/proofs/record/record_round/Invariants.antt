@@ -12,6 +12,3 @@ invariant-loop-j l =
     (l.j ≤ l.k)
     × (length l.ritz_record ≡ length l.initial.ritz_record)
     × (l.ritz_record ≡ fill_range (l.first + 1) (l.first + 1 + l.j) (λ p. recorded ieee64 l.k l.bound l.matrix l.order (p - l.first)) l.initial.ritz_record)
-
-abbrev pub decreases-loop-j : goal.decreases-loop-j
-decreases-loop-j l = l.k - l.j
