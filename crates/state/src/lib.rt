@@ -7,6 +7,10 @@ ghost use Rattle.machine.specs.Work.{free_block};
 
 use input::Verdict;
 
+mod lent; // what a run is lent
+
+pub use lent::{Graph, Memory, MemoryView};
+
 // What was asked at the opening.
 #[repr(C)]
 #[derive(Clone, Copy)]

@@ -8,28 +8,25 @@ use Rattle.definition.specs.Arith.{ieee64}
 use Rattle.machine.specs.State.{stage_of, Lists, State, Lent}
 use Rattle.machine.specs.Ranges.{reads_starts, reads_edges}
 use Rattle.machine.specs.Work.{work_by, work}
-use Rattle.state.specs.Said.{lists_in, lent_in}
-use Rattle.stages.specs.Parts.{parts_in}
+use Rattle.state.specs.Said.{lists_of, lent_of}
+use Rattle.stages.specs.Parts.{parts_of}
 use Rattle.stages.proofs.Arms.{blocks_ready, edges_ready, none_of, arm, idle_arm}
 use Rattle.stages.proofs.chunk_work.Goals as goal
 use Rattle.stages.proofs.chunk_work.Goals.{Start}
 
 -- the parts of the state as they came
 abbrev parts : Start → State ieee64
-parts s = let a = s.args in parts_in a.asked a.progress a.totals.now a.vectors.now a.order.now
+parts s = parts_of s.args.parts
 
 -- the graph and the lent memory as they came
 abbrev graph : Start → Lists ieee64
-graph s = let a = s.args in lists_in a.starts.now a.columns.now a.values.now
+graph s = lists_of s.args.graph
 
 abbrev lent : Start → Lent ieee64
-lent s =
-    let a = s.args in
-    lent_in a.inverse.now a.v0.now a.edge_columns.now a.edge_weights.now a.block0.now a.block1.now a.block2.now a.partials.now
-    a.output.now
+lent s = lent_of s.args.memory.now
 
 -- the work of the stage of number k is what is asked, where that is the state's
-at_stage : (s : Start) (k : ℕ) {after : Lent ieee64} → s.args.progress.stage ≡ k
+at_stage : (s : Start) (k : ℕ) {after : Lent ieee64} → s.args.parts.progress.stage ≡ k
     → after ≡ work_by ieee64 (stage_of k) (parts s) (graph s) s.args.h (lent s)
     → after ≡ work ieee64 (parts s) (graph s) s.args.h (lent s)
 at_stage s k p w = arm (parts s) (graph s) s.args.h (lent s) k p w
@@ -160,126 +157,126 @@ scale_stage-requires c =
       dims_in_bounds = c.requires.lent.output;
     }
 
-pub returns-in-1 : goal.returns-in-1
-returns-in-1 c =
-    let s = (goal.at.returns-in-1 c).Start in
+pub returns-in-1-clause-done : goal.returns-in-1-clause-done
+returns-in-1-clause-done c =
+    let s = (goal.at.returns-in-1-clause-done c).Start in
     let m = lent s in
     at_stage s 1 c.in-1.is
     (c.degrees_stage.ensures (graph s).columns m.edge_columns m.edge_weights m.block0 m.block1 m.block2 m.partials m.output)
 
-pub returns-in-2 : goal.returns-in-2
-returns-in-2 c =
-    let s = (goal.at.returns-in-2 c).Start in
+pub returns-in-2-clause-done : goal.returns-in-2-clause-done
+returns-in-2-clause-done c =
+    let s = (goal.at.returns-in-2-clause-done c).Start in
     let m = lent s in
     at_stage s 2 c.in-2.is
     (c.edges_stage.ensures m.v0 m.block0 m.block1 m.block2 m.partials m.output)
 
-pub returns-in-3 : goal.returns-in-3
-returns-in-3 c =
-    let s = (goal.at.returns-in-3 c).Start in
+pub returns-in-3-clause-done : goal.returns-in-3-clause-done
+returns-in-3-clause-done c =
+    let s = (goal.at.returns-in-3-clause-done c).Start in
     let m = lent s in
     at_stage s 3 c.in-3.is
     (c.v0_stage.ensures m.inverse m.edge_columns m.edge_weights m.block0 m.block1 m.block2 m.partials m.output)
 
-pub returns-in-4 : goal.returns-in-4
-returns-in-4 c =
-    let s = (goal.at.returns-in-4 c).Start in
+pub returns-in-4-clause-done : goal.returns-in-4-clause-done
+returns-in-4-clause-done c =
+    let s = (goal.at.returns-in-4-clause-done c).Start in
     let m = lent s in
     at_stage s 4 c.in-4.is
     (c.start_stage.ensures m.inverse m.v0 m.edge_columns m.edge_weights m.block1 m.block2 m.partials m.output)
 
-pub returns-in-5 : goal.returns-in-5
-returns-in-5 c =
-    let s = (goal.at.returns-in-5 c).Start in
+pub returns-in-5-clause-done : goal.returns-in-5-clause-done
+returns-in-5-clause-done c =
+    let s = (goal.at.returns-in-5-clause-done c).Start in
     let m = lent s in
     at_stage s 5 c.in-5.is
     (c.filter_stage.ensures (graph s).columns (graph s).values m.v0 m.partials m.output)
 
-pub returns-in-6 : goal.returns-in-6
-returns-in-6 c =
-    let s = (goal.at.returns-in-6 c).Start in
+pub returns-in-6-clause-done : goal.returns-in-6-clause-done
+returns-in-6-clause-done c =
+    let s = (goal.at.returns-in-6-clause-done c).Start in
     let m = lent s in
     let done = c.norm_stage.ensures m.inverse m.v0 m.edge_columns m.edge_weights m.output in
     ⊎_elim (λ k. at_stage s 6 k done) (λ k. at_stage s 11 k done) c.in-6.is
 
-pub returns-in-7 : goal.returns-in-7
-returns-in-7 c =
-    let s = (goal.at.returns-in-7 c).Start in
+pub returns-in-7-clause-done : goal.returns-in-7-clause-done
+returns-in-7-clause-done c =
+    let s = (goal.at.returns-in-7-clause-done c).Start in
     let m = lent s in
     let done = c.dots_stage.ensures m.inverse m.edge_columns m.edge_weights m.output in
     ⊎_elim (λ k. at_stage s 7 k done) (λ k. at_stage s 9 k done) c.in-7.is
 
-pub returns-in-8 : goal.returns-in-8
-returns-in-8 c =
-    let s = (goal.at.returns-in-8 c).Start in
+pub returns-in-8-clause-done : goal.returns-in-8-clause-done
+returns-in-8-clause-done c =
+    let s = (goal.at.returns-in-8-clause-done c).Start in
     let m = lent s in
     let done = c.subtract_stage.ensures m.inverse m.edge_columns m.edge_weights m.partials m.output in
     ⊎_elim (λ k. at_stage s 8 k done) (λ k. at_stage s 10 k done) c.in-8.is
 
-pub returns-in-12 : goal.returns-in-12
-returns-in-12 c =
-    let s = (goal.at.returns-in-12 c).Start in
+pub returns-in-12-clause-done : goal.returns-in-12-clause-done
+returns-in-12-clause-done c =
+    let s = (goal.at.returns-in-12-clause-done c).Start in
     let m = lent s in
     at_stage s 12 c.in-12.is
     (c.write_stage.ensures m.inverse m.v0 m.edge_columns m.edge_weights m.partials m.output)
 
-pub returns-in-13 : goal.returns-in-13
-returns-in-13 c =
-    let s = (goal.at.returns-in-13 c).Start in
+pub returns-in-13-clause-done : goal.returns-in-13-clause-done
+returns-in-13-clause-done c =
+    let s = (goal.at.returns-in-13-clause-done c).Start in
     let m = lent s in
     at_stage s 13 c.in-13.is
     (c.plain_stage.ensures (graph s).columns (graph s).values m.v0 m.partials m.output)
 
-pub returns-in-14 : goal.returns-in-14
-returns-in-14 c =
-    let s = (goal.at.returns-in-14 c).Start in
+pub returns-in-14-clause-done : goal.returns-in-14-clause-done
+returns-in-14-clause-done c =
+    let s = (goal.at.returns-in-14-clause-done c).Start in
     let m = lent s in
     at_stage s 14 c.in-14.is
     (c.products_stage.ensures m.inverse m.v0 m.edge_columns m.edge_weights m.output)
 
-pub returns-in-15 : goal.returns-in-15
-returns-in-15 c =
-    let s = (goal.at.returns-in-15 c).Start in
+pub returns-in-15-clause-done : goal.returns-in-15-clause-done
+returns-in-15-clause-done c =
+    let s = (goal.at.returns-in-15-clause-done c).Start in
     let m = lent s in
     at_stage s 15 c.in-15.is
     (c.rotate_stage.ensures m.v0 m.edge_columns m.edge_weights m.partials)
 
-pub returns-in-16 : goal.returns-in-16
-returns-in-16 c =
-    let s = (goal.at.returns-in-16 c).Start in
+pub returns-in-16-clause-done : goal.returns-in-16-clause-done
+returns-in-16-clause-done c =
+    let s = (goal.at.returns-in-16-clause-done c).Start in
     let m = lent s in
     at_stage s 16 c.in-16.is
     (c.sums_stage.ensures m.inverse m.v0 m.edge_columns m.edge_weights m.block0 m.block1 m.block2)
 
-pub returns-in-17 : goal.returns-in-17
-returns-in-17 c =
-    let s = (goal.at.returns-in-17 c).Start in
+pub returns-in-17-clause-done : goal.returns-in-17-clause-done
+returns-in-17-clause-done c =
+    let s = (goal.at.returns-in-17-clause-done c).Start in
     let m = lent s in
     at_stage s 17 c.in-17.is
     (c.centre_stage.ensures m.inverse m.v0 m.edge_columns m.edge_weights m.block0 m.block1 m.block2 m.partials)
 
-pub returns-in-18 : goal.returns-in-18
-returns-in-18 c =
-    let s = (goal.at.returns-in-18 c).Start in
+pub returns-in-18-clause-done : goal.returns-in-18-clause-done
+returns-in-18-clause-done c =
+    let s = (goal.at.returns-in-18-clause-done c).Start in
     let m = lent s in
     at_stage s 18 c.in-18.is
     (c.squares_stage.ensures m.inverse m.v0 m.edge_columns m.edge_weights m.block0 m.block1 m.block2)
 
-pub returns-in-19 : goal.returns-in-19
-returns-in-19 c =
-    let s = (goal.at.returns-in-19 c).Start in
+pub returns-in-19-clause-done : goal.returns-in-19-clause-done
+returns-in-19-clause-done c =
+    let s = (goal.at.returns-in-19-clause-done c).Start in
     let m = lent s in
     at_stage s 19 c.in-19.is
     (c.scale_stage.ensures m.inverse m.v0 m.edge_columns m.edge_weights m.block0 m.block1 m.block2 m.partials)
 
-pub returns-in_default : goal.returns-in_default
-returns-in_default c =
-    let s = (goal.at.returns-in_default c).Start in
-    let not6 : (s.args.progress.stage ≡ 6) ⊎ (s.args.progress.stage ≡ 11) → ⊥ = search rules in
-    let not7 : (s.args.progress.stage ≡ 7) ⊎ (s.args.progress.stage ≡ 9) → ⊥ = search rules in
-    let not8 : (s.args.progress.stage ≡ 8) ⊎ (s.args.progress.stage ≡ 10) → ⊥ = search rules in
+pub returns-in_default-clause-done : goal.returns-in_default-clause-done
+returns-in_default-clause-done c =
+    let s = (goal.at.returns-in_default-clause-done c).Start in
+    let not6 : (s.args.parts.progress.stage ≡ 6) ⊎ (s.args.parts.progress.stage ≡ 11) → ⊥ = search rules in
+    let not7 : (s.args.parts.progress.stage ≡ 7) ⊎ (s.args.parts.progress.stage ≡ 9) → ⊥ = search rules in
+    let not8 : (s.args.parts.progress.stage ≡ 8) ⊎ (s.args.parts.progress.stage ≡ 10) → ⊥ = search rules in
     idle_arm (parts s) (graph s) s.args.h (lent s)
-    (none_of s.args.progress.stage
+    (none_of s.args.parts.progress.stage
     (λ e. omega arith)
     (λ e. omega arith)
     (λ e. omega arith)
