@@ -58,8 +58,11 @@ lent_of m = lent_in m.inverse.now m.v0.now m.edge_columns.now m.edge_weights.now
 abbrev pub all_of : Memory → List Float → machine.Lent ieee64
 all_of m ritz_record = machine.with_record ieee64 ritz_record (lent_of m)
 
+abbrev pub lent_seen : MemoryView → machine.Lent ieee64
+lent_seen m = lent_in m.inverse.now m.v0.now m.edge_columns.now m.edge_weights.now m.block0.now m.block1.now m.block2.now m.partials.now m.output.now
+
 abbrev pub all_seen : MemoryView → List Float → machine.Lent ieee64
-all_seen m ritz_record = lent_all m.inverse.now m.v0.now m.edge_columns.now m.edge_weights.now m.block0.now m.block1.now m.block2.now m.partials.now m.output.now ritz_record
+all_seen m ritz_record = machine.with_record ieee64 ritz_record (lent_seen m)
 
 -- the lists are the same places as before: a caller that lent them finds there what a call left
 pub record SamePlaces (m n : Memory) : Type 0 where

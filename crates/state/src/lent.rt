@@ -1,5 +1,7 @@
 // What a run is lent: a graph, and memory in document 01's order. The marks (8) and the Ritz record (10) are lent beside it: no chunk's
 // work reads or writes them.
+ghost use Rattle.std.specs.Prelude.{◌≡◌};
+ghost use Rattle.state.specs.Said.{lent_of, lent_seen};
 
 // Where each row's entries start and where the last end, the entries' columns, and their values.
 #[derive(Clone, Copy)]
@@ -35,4 +37,23 @@ pub struct MemoryView<'a> {
     pub block2: &'a [f64],
     pub partials: &'a [f64],
     pub output: &'a [f64],
+}
+
+impl<'a> Memory<'a> {
+    // The same lists, to be read.
+    pub fn view(&self) -> MemoryView<'_>
+        ensures { lent_seen result ≡ lent_of self.now }
+    {
+        MemoryView {
+            inverse: &*self.inverse,
+            v0: &*self.v0,
+            edge_columns: &*self.edge_columns,
+            edge_weights: &*self.edge_weights,
+            block0: &*self.block0,
+            block1: &*self.block1,
+            block2: &*self.block2,
+            partials: &*self.partials,
+            output: &*self.output,
+        }
+    }
 }
