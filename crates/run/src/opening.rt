@@ -4,11 +4,11 @@ ghost use Rattle.definition.specs.Arith.{ieee64};
 ghost use Rattle.input.specs.Said.{params_of};
 ghost use Rattle.machine.specs.State.{begun_at, opened_state, empty_state};
 ghost use Rattle.machine.specs.Calls.{open_call};
-ghost use Rattle.state.specs.Said.{asked_in, state_in, lists_in, lent_all, outcome_in};
+ghost use Rattle.state.specs.Said.{asked_in, state_in, lists_in, lists_of, all_seen, outcome_in};
 
 use columns::marks::clear_marks;
 use input::{SpectralParams, Verdict};
-use state::{Answer, Asked, Counts, Progress, State};
+use state::{Answer, Asked, Counts, Graph, MemoryView, Progress, State};
 
 // At a stage, with nothing done yet: all numbers are 0 but the filter's first bound and the alpha that it sets.
 fn begun_at(stage: usize, asked: Asked) -> State
@@ -79,44 +79,33 @@ fn opened_state(d: u64, params: SpectralParams, starts: &[u64], columns: &[u32])
 }
 
 // Opens a run. Only the first C marks are written.
-pub fn open(
+pub fn open<'g, 'm>(
     d: u64,
     params: SpectralParams,
-    starts: &[u64],
-    columns: &[u32],
-    values: &[f64],
-    inverse: &[f64],
-    v0: &[f64],
-    edge_columns: &[u32],
-    edge_weights: &[f64],
-    block0: &[f64],
-    block1: &[f64],
-    block2: &[f64],
-    partials: &[f64],
+    graph: Graph<'g>,
+    memory: MemoryView<'m>,
     marks: &mut [u8],
-    output: &[f64],
     ritz_record: &[f64],
 ) -> Answer
-    ensures { outcome_in result
-        (lent_all inverse.now v0.now edge_columns.now edge_weights.now
-        block0.now block1.now block2.now partials.now output.now ritz_record.now)
-        marks.new
-        ≡ open_call ieee64 d (params_of params) (lists_in starts.now columns.now values.now)
-        (lent_all inverse.now v0.now edge_columns.now edge_weights.now
-        block0.now block1.now block2.now partials.now output.now ritz_record.now)
-        marks.old }
+    ensures { outcome_in result (all_seen memory.entry ritz_record.now) marks.new
+        ≡ open_call ieee64 d (params_of params) (lists_of graph.entry) (all_seen memory.entry ritz_record.now) marks.old }
 {
+    let Graph {
+        starts,
+        columns,
+        values,
+    } = graph;
     let lengths = [
-        inverse.len(),
-        v0.len(),
-        edge_columns.len(),
-        edge_weights.len(),
-        block0.len(),
-        block1.len(),
-        block2.len(),
-        partials.len(),
+        memory.inverse.len(),
+        memory.v0.len(),
+        memory.edge_columns.len(),
+        memory.edge_weights.len(),
+        memory.block0.len(),
+        memory.block1.len(),
+        memory.block2.len(),
+        memory.partials.len(),
         marks.len(),
-        output.len(),
+        memory.output.len(),
         ritz_record.len(),
     ];
     let tested = input::test_request(d, params, starts, columns, values, lengths);

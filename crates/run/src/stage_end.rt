@@ -6,11 +6,11 @@ ghost use Rattle.machine.specs.State.{stage_of, wide, chunk_count};
 ghost use Rattle.machine.specs.Ready.{StateReady};
 ghost use Rattle.machine.specs.Closing.{closed_by, record_after};
 ghost use Rattle.machine.specs.Calls.{close_call};
-ghost use Rattle.state.specs.Said.{asked_in, state_in, lists_in, lent_all, outcome_in};
+ghost use Rattle.state.specs.Said.{asked_in, state_in, lists_of, all_seen, outcome_in};
 
 use columns::marks::clear_marks;
 use input::Verdict;
-use state::{Answer, State};
+use state::{Answer, Graph, MemoryView, State};
 
 // Closing without its tests, for a caller that has shown what they ask.
 pub fn close_stage(
@@ -36,49 +36,33 @@ pub fn close_stage(
 
 // Closes the stage, once each of its chunks is done. Only the first C marks are written and, when the products close, their round's places
 // of the Ritz record.
-pub fn close(
+pub fn close<'g, 'm>(
     state: State,
-    starts: &[u64],
-    columns: &[u32],
-    values: &[f64],
-    inverse: &[f64],
-    v0: &[f64],
-    edge_columns: &[u32],
-    edge_weights: &[f64],
-    block0: &[f64],
-    block1: &[f64],
-    block2: &[f64],
-    partials: &[f64],
+    graph: Graph<'g>,
+    memory: MemoryView<'m>,
     marks: &mut [u8],
-    output: &[f64],
     ritz_record: &mut [f64],
 ) -> Answer
-    ensures { outcome_in result
-        (lent_all inverse.now v0.now edge_columns.now edge_weights.now
-        block0.now block1.now block2.now partials.now output.now ritz_record.new)
-        marks.new
-        ≡ close_call ieee64 (state_in state) (lists_in starts.now columns.now values.now)
-        (lent_all inverse.now v0.now edge_columns.now edge_weights.now
-        block0.now block1.now block2.now partials.now output.now ritz_record.old)
-        marks.old }
+    ensures { outcome_in result (all_seen memory.entry ritz_record.new) marks.new
+        ≡ close_call ieee64 (state_in state) (lists_of graph.entry) (all_seen memory.entry ritz_record.old) marks.old }
 {
     let lengths = [
-        inverse.len(),
-        v0.len(),
-        edge_weights.len(),
-        block0.len(),
-        block1.len(),
-        block2.len(),
-        partials.len(),
-        output.len(),
+        memory.inverse.len(),
+        memory.v0.len(),
+        memory.edge_weights.len(),
+        memory.block0.len(),
+        memory.block1.len(),
+        memory.block2.len(),
+        memory.partials.len(),
+        memory.output.len(),
         ritz_record.len(),
     ];
     let tested = guard::test_close(
         state,
-        starts,
-        columns,
-        values,
-        edge_columns,
+        graph.starts,
+        graph.columns,
+        graph.values,
+        memory.edge_columns,
         &marks[..],
         lengths,
     );
@@ -86,7 +70,7 @@ pub fn close(
     if tested.is_err() {
         return Answer { verdict, state };
     }
-    let next = close_stage(state, v0, partials, marks, ritz_record);
+    let next = close_stage(state, memory.v0, memory.partials, marks, ritz_record);
     Answer {
         verdict,
         state: next,

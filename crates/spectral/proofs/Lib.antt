@@ -1,5 +1,4 @@
 -- Laws of the one call.
-pub mod Lengths
 pub mod Chunks
 pub mod Stages
 pub mod Paths

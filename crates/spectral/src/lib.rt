@@ -10,11 +10,12 @@ ghost use Rattle.machine.specs.State.{chunk_count, opened_state};
 ghost use Rattle.machine.specs.Ready.{Ready};
 ghost use Rattle.promises.specs.Promises.{Accepted};
 ghost use Rattle.promises.specs.OneCall.{whole_call, end_of};
-ghost use Rattle.state.specs.Said.{asked_in, counts_in, state_in, lists_in, lent_in, lent_all};
+ghost use Rattle.state.specs.Said.{asked_in, counts_in, state_in, lists_of, lent_of, all_of, SamePlaces};
 ghost use Rattle.spectral.specs.Said.{whole_in, done_up, params_asked};
 
 use input::{SpectralParams, Verdict};
-use state::{Counts, State};
+use stages::StateParts;
+use state::{Counts, Graph, Memory, State};
 
 // The verdict and the counts of the whole run; zero counts with a refusal.
 #[repr(C)]
@@ -25,92 +26,47 @@ pub struct Embedded {
 }
 
 // All chunks of the state's stage, upward.
-fn all_chunks(
-    state: State,
-    starts: &[u64],
-    columns: &[u32],
-    values: &[f64],
-    inverse: &mut [f64],
-    v0: &mut [f64],
-    edge_columns: &mut [u32],
-    edge_weights: &mut [f64],
-    block0: &mut [f64],
-    block1: &mut [f64],
-    block2: &mut [f64],
-    partials: &mut [f64],
-    marks: &mut [u8],
-    output: &mut [f64],
-)
-    requires by_index { (h : ℕ) → h < chunk_count (asked_in state.asked) → Ready ieee64 (state_in state) h (lists_in starts.now columns.now values.now)
-        (done_up (state_in state) (lists_in starts.now columns.now values.now) h
-        (lent_in inverse.old v0.old edge_columns.old edge_weights.old block0.old block1.old block2.old partials.old output.old)) }
+fn all_chunks<'g, 'm>(state: State, graph: Graph<'g>, memory: &mut Memory<'m>, marks: &mut [u8])
+    requires by_index { (h : ℕ) → h < chunk_count (asked_in state.asked) → Ready ieee64 (state_in state) h (lists_of graph)
+        (done_up (state_in state) (lists_of graph) h (lent_of memory.old)) }
     requires asked_in_bounds { chunk_count (asked_in state.asked) ≤ length marks.old }
-    ensures output_after { lent_in inverse.new v0.new edge_columns.new edge_weights.new
-        block0.new block1.new block2.new partials.new output.new
-        ≡ done_up (state_in state) (lists_in starts.now columns.now values.now) (chunk_count (asked_in state.asked))
-        (lent_in inverse.old v0.old edge_columns.old edge_weights.old
-        block0.old block1.old block2.old partials.old output.old) }
+    ensures memory_after { lent_of memory.new
+        ≡ done_up (state_in state) (lists_of graph.entry) (chunk_count (asked_in state.asked)) (lent_of memory.old) }
+    ensures same_places { SamePlaces memory.old memory.new }
     ensures marks_after { marks.new ≡ fill_range 0 (chunk_count (asked_in state.asked)) (λ h. 1) marks.old }
 {
     let asked = state.asked;
-    let progress = state.progress;
     let chunks = input::chunk_count(asked.rows);
+    let parts = StateParts {
+        asked,
+        progress: state.progress,
+        totals: &state.totals,
+        vectors: &state.vectors,
+        order: &state.order,
+    };
     for h in 0..chunks {
-        run::work_chunk(
-            asked,
-            progress,
-            &state.totals,
-            &state.vectors,
-            &state.order,
-            h,
-            starts,
-            columns,
-            values,
-            inverse,
-            v0,
-            edge_columns,
-            edge_weights,
-            block0,
-            block1,
-            block2,
-            partials,
-            marks,
-            output,
-        );
+        run::work_chunk(parts, h, graph, memory, marks);
     }
 }
 
 // Stage after stage, from the opened state to the end. A run has fewer than 2,000,000 stages, so the loop is always left by its return: the
 // count only shows that it ends.
-fn all_stages(
+fn all_stages<'g, 'm>(
     state: State,
-    starts: &[u64],
-    columns: &[u32],
-    values: &[f64],
-    inverse: &mut [f64],
-    v0: &mut [f64],
-    edge_columns: &mut [u32],
-    edge_weights: &mut [f64],
-    block0: &mut [f64],
-    block1: &mut [f64],
-    block2: &mut [f64],
-    partials: &mut [f64],
+    graph: Graph<'g>,
+    memory: &mut Memory<'m>,
     marks: &mut [u8],
-    output: &mut [f64],
     ritz_record: &mut [f64],
 ) -> Counts
-    requires accepted { Accepted ieee64 state.asked.dims (params_asked (asked_in state.asked)) (lists_in starts.now columns.now values.now)
-        (lent_all inverse.old v0.old edge_columns.old edge_weights.old block0.old block1.old block2.old partials.old output.old ritz_record.old) marks.old }
-    requires state_value { state_in state ≡ opened_state ieee64 state.asked.dims (params_asked (asked_in state.asked)) (lists_in starts.now columns.now values.now) }
+    requires accepted { Accepted ieee64 state.asked.dims (params_asked (asked_in state.asked)) (lists_of graph)
+        (all_of memory.old ritz_record.old) marks.old }
+    requires state_value { state_in state ≡ opened_state ieee64 state.asked.dims (params_asked (asked_in state.asked)) (lists_of graph) }
     requires marks_value { marks.old ≡ cleared (chunk_count (asked_in state.asked)) marks.old }
-    ensures result_value { counts_in result ≡ (end_of ieee64 state.asked.dims (params_asked (asked_in state.asked)) (lists_in starts.now columns.now values.now)
-        (lent_all inverse.old v0.old edge_columns.old edge_weights.old
-        block0.old block1.old block2.old partials.old output.old ritz_record.old)).state.counts }
-    ensures ritz_record_after { lent_all inverse.new v0.new edge_columns.new edge_weights.new
-        block0.new block1.new block2.new partials.new output.new ritz_record.new
-        ≡ (end_of ieee64 state.asked.dims (params_asked (asked_in state.asked)) (lists_in starts.now columns.now values.now)
-        (lent_all inverse.old v0.old edge_columns.old edge_weights.old
-        block0.old block1.old block2.old partials.old output.old ritz_record.old)).mem }
+    ensures result_value { counts_in result ≡ (end_of ieee64 state.asked.dims (params_asked (asked_in state.asked)) (lists_of graph.entry)
+        (all_of memory.old ritz_record.old)).state.counts }
+    ensures memory_after { all_of memory.new ritz_record.new
+        ≡ (end_of ieee64 state.asked.dims (params_asked (asked_in state.asked)) (lists_of graph.entry) (all_of memory.old ritz_record.old)).mem }
+    ensures same_places { SamePlaces memory.old memory.new }
     ensures marks_unchanged { marks.new ≡ marks.old }
 {
     let mut reached = state;
@@ -121,23 +77,9 @@ fn all_stages(
         if stage == 20 {
             return reached.counts;
         }
-        all_chunks(
-            reached,
-            starts,
-            columns,
-            values,
-            inverse,
-            v0,
-            edge_columns,
-            edge_weights,
-            block0,
-            block1,
-            block2,
-            partials,
-            marks,
-            output,
-        );
-        reached = run::close_stage(reached, v0, partials, marks, ritz_record);
+        all_chunks(reached, graph, memory, marks);
+        let seen = memory.view();
+        reached = run::close_stage(reached, seen.v0, seen.partials, marks, ritz_record);
         left -= 1;
     }
     reached.counts
@@ -147,52 +89,20 @@ fn all_stages(
 // each round's bound and Ritz values in `ritz_record`. Refusals are 1 to 11; a refused call changes
 // no lent number. It does what the held run does, in one call and in one order.
 //
-// Argument order as in crate `run`: what is asked, the graph, the lent memory in document 01's order 0 to 10.
-pub fn spectral_embedding(
+// Argument order as in crate `run`: what is asked, the graph, the lent memory.
+pub fn spectral_embedding<'g, 'm>(
     d: u64,
     params: SpectralParams,
-    starts: &[u64],
-    columns: &[u32],
-    values: &[f64],
-    inverse: &mut [f64],
-    v0: &mut [f64],
-    edge_columns: &mut [u32],
-    edge_weights: &mut [f64],
-    block0: &mut [f64],
-    block1: &mut [f64],
-    block2: &mut [f64],
-    partials: &mut [f64],
+    graph: Graph<'g>,
+    memory: &mut Memory<'m>,
     marks: &mut [u8],
-    output: &mut [f64],
     ritz_record: &mut [f64],
 ) -> Embedded
-    ensures { whole_in result
-        (lent_all inverse.new v0.new edge_columns.new edge_weights.new
-        block0.new block1.new block2.new partials.new output.new ritz_record.new)
-        marks.new
-        ≡ whole_call ieee64 d (params_of params) (lists_in starts.now columns.now values.now)
-        (lent_all inverse.old v0.old edge_columns.old edge_weights.old
-        block0.old block1.old block2.old partials.old output.old ritz_record.old)
-        marks.old }
+    ensures answer { whole_in result (all_of memory.new ritz_record.new) marks.new
+        ≡ whole_call ieee64 d (params_of params) (lists_of graph.entry) (all_of memory.old ritz_record.old) marks.old }
+    ensures same_places { SamePlaces memory.old memory.new }
 {
-    let opened = run::open(
-        d,
-        params,
-        starts,
-        columns,
-        values,
-        &inverse[..],
-        &v0[..],
-        &edge_columns[..],
-        &edge_weights[..],
-        &block0[..],
-        &block1[..],
-        &block2[..],
-        &partials[..],
-        marks,
-        &output[..],
-        &ritz_record[..],
-    );
+    let opened = run::open(d, params, graph, memory.view(), marks, &ritz_record[..]);
     let verdict = opened.verdict;
     let is_refused = verdict.number != 0;
     if is_refused {
@@ -204,23 +114,6 @@ pub fn spectral_embedding(
         };
         return Embedded { verdict, counts };
     }
-    let state = opened.state;
-    let counts = all_stages(
-        state,
-        starts,
-        columns,
-        values,
-        inverse,
-        v0,
-        edge_columns,
-        edge_weights,
-        block0,
-        block1,
-        block2,
-        partials,
-        marks,
-        output,
-        ritz_record,
-    );
+    let counts = all_stages(opened.state, graph, memory, marks, ritz_record);
     Embedded { verdict, counts }
 }

@@ -14,6 +14,10 @@ mod stage; // stage.rt: the stages, and their numbers
 
 pub use stage::Stage;
 
+mod lent; // what a run is lent
+
+pub use lent::{Graph, Memory, MemoryView};
+
 // What was asked at the opening.
 #[repr(C)]
 #[derive(Clone, Copy)]

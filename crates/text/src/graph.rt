@@ -8,6 +8,7 @@ ghost use Rattle.text.specs.Small.{Embeds, answer_of};
 
 use input::SpectralParams;
 use spectral::Embedded;
+use state::{Graph, Memory};
 
 // The one call in memory for 64 rows, 1,024 entries, 7 dimensions and 400 rounds; the seed is in `output`. The Ritz record is not printed.
 fn embed(
@@ -31,24 +32,23 @@ fn embed(
     let mut partials = [0.0; 225];
     let mut marks = [0u8; 1];
     let mut ritz_record = [0.0; 6400];
-    spectral::spectral_embedding(
-        d,
-        params,
+    let graph = Graph {
         starts,
         columns,
         values,
-        &mut inverse,
-        &mut v0,
-        &mut edge_columns,
-        &mut edge_weights,
-        &mut block0,
-        &mut block1,
-        &mut block2,
-        &mut partials,
-        &mut marks,
+    };
+    let mut memory = Memory {
+        inverse: &mut inverse,
+        v0: &mut v0,
+        edge_columns: &mut edge_columns,
+        edge_weights: &mut edge_weights,
+        block0: &mut block0,
+        block1: &mut block1,
+        block2: &mut block2,
+        partials: &mut partials,
         output,
-        &mut ritz_record,
-    )
+    };
+    spectral::spectral_embedding(d, params, graph, &mut memory, &mut marks, &mut ritz_record)
 }
 
 // The answer for a small graph at these parameters, from the first byte on; the place behind it.

@@ -18,7 +18,7 @@ ghost use Rattle.threshcinch.specs.Said.{test_sizes, sizes_by};
 
 use input::{Set, SpectralParams, Verdict};
 use spectral::Embedded;
-use state::{Answer, State};
+use state::{Answer, Graph, Memory, MemoryView, State};
 
 mod markets; // Matrix Market files
 mod texts; // run files and answers
@@ -157,12 +157,12 @@ pub extern "C" fn threshcinch_spectral_embedding(
         block0.old block1.old block2.old partials.old output.old ritz_record.old)
         marks.old }
 {
-    spectral::spectral_embedding(
-        d,
-        params,
+    let graph = Graph {
         starts,
         columns,
         values,
+    };
+    let mut memory = Memory {
         inverse,
         v0,
         edge_columns,
@@ -171,10 +171,9 @@ pub extern "C" fn threshcinch_spectral_embedding(
         block1,
         block2,
         partials,
-        marks,
         output,
-        ritz_record,
-    )
+    };
+    spectral::spectral_embedding(d, params, graph, &mut memory, marks, ritz_record)
 }
 
 // ---- the held run
@@ -207,12 +206,12 @@ pub extern "C" fn threshcinch_open(
         block0.now block1.now block2.now partials.now output.now ritz_record.now)
         marks.old }
 {
-    run::open(
-        d,
-        params,
+    let graph = Graph {
         starts,
         columns,
         values,
+    };
+    let memory = MemoryView {
         inverse,
         v0,
         edge_columns,
@@ -221,10 +220,9 @@ pub extern "C" fn threshcinch_open(
         block1,
         block2,
         partials,
-        marks,
         output,
-        ritz_record,
-    )
+    };
+    run::open(d, params, graph, memory, marks, ritz_record)
 }
 
 #[unsafe(no_mangle)]
@@ -255,12 +253,12 @@ pub extern "C" fn threshcinch_chunk(
         block0.old block1.old block2.old partials.old output.old ritz_record.now)
         marks.old }
 {
-    run::chunk(
-        state,
-        number,
+    let graph = Graph {
         starts,
         columns,
         values,
+    };
+    let mut memory = Memory {
         inverse,
         v0,
         edge_columns,
@@ -269,10 +267,9 @@ pub extern "C" fn threshcinch_chunk(
         block1,
         block2,
         partials,
-        marks,
         output,
-        ritz_record,
-    )
+    };
+    run::chunk(state, number, graph, &mut memory, marks, ritz_record)
 }
 
 #[unsafe(no_mangle)]
@@ -302,11 +299,12 @@ pub extern "C" fn threshcinch_close(
         block0.now block1.now block2.now partials.now output.now ritz_record.old)
         marks.old }
 {
-    run::close(
-        state,
+    let graph = Graph {
         starts,
         columns,
         values,
+    };
+    let memory = MemoryView {
         inverse,
         v0,
         edge_columns,
@@ -315,10 +313,9 @@ pub extern "C" fn threshcinch_close(
         block1,
         block2,
         partials,
-        marks,
         output,
-        ritz_record,
-    )
+    };
+    run::close(state, graph, memory, marks, ritz_record)
 }
 
 // Calls accepted in the stages that are closed.

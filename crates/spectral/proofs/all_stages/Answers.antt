@@ -1,16 +1,22 @@
-use mathlib.Core.Path.{◌∙◌}
+use mathlib.Core.Path.{refl, sym, ap, ◌∙◌, subst}
+use Prim.Native.Nat.{ℕ, ◌*◌, ◌≤◌}
+use lib.ListN.{length}
+use Rattle.definition.specs.Arith.{ieee64}
+use Rattle.machine.specs.State.{Asked, Lent, stage_of, wide, chunk_count}
+use Rattle.machine.specs.Closing.{closed_by}
+use Rattle.state.specs.Said.{asked_in, state_in}
 use native.Mathlib.Omega.{arith}
-use Rattle.spectral.proofs.Lengths.{same, same-on}
+use Rattle.state.proofs.Places.{same_places, places_on}
 use Rattle.spectral.proofs.Stages.{none-closed, opened-marks, to_come, chunks_ready, marks-here, closable, marks-done, closed-next, counted-down, ended, never_out}
 use Rattle.spectral.proofs.all_stages.Goals as goal
 
 pub loop-left-init : goal.loop-left-init
-loop-left-init c = (omega arith, none-closed _ _ _ _ _ _ c.requires.state_value, same _ _)
+loop-left-init c = (omega arith, none-closed _ _ _ _ _ _ c.requires.state_value, refl, refl, same_places _)
 
 pub returns-then-stage-eq20 : goal.returns-then-stage-eq20
 returns-then-stage-eq20 c =
     let e = ended c.requires.accepted c.loop-left.invariant.1 c.if-stage-eq20.true in
-    record { result_value = e.0; ritz_record_after = e.1.0; marks_unchanged = e.1.1 }
+    record { result_value = e.0; memory_after = e.1.0; same_places = c.loop-left.invariant.4; marks_unchanged = e.1.1 }
 
 pub all_chunks-requires : goal.all_chunks-requires
 all_chunks-requires c =
@@ -18,15 +24,21 @@ all_chunks-requires c =
     let ok = c.requires.accepted in
     record { by_index = chunks_ready ok at; asked_in_bounds = marks-here ok at }
 
+-- as many numbers as the partials have at least
+abbrev parts_most : Asked → ℕ
+parts_most a = chunk_count a * wide a * wide a
+
+-- what closing reads is what the chunks have left
 pub close_stage-reached-requires : goal.close_stage-reached-requires
 close_stage-reached-requires c =
     let at = c.loop-left.invariant.1 in
     let ok = c.requires.accepted in
     let d = c.all_chunks.ensures in
-    let k = closable ok at d.output_after in
+    let k = closable ok at d.memory_after in
+    let e = sym c.view-seen.ensures in
     record {
       state_ready = k.state;
-      rows_in_bounds = (k.v0, k.partials);
+      rows_in_bounds = (subst (λ (m : Lent ieee64). c.loop-left.reached.asked.rows ≤ length m.v0) e k.v0, subst (λ (m : Lent ieee64). parts_most (asked_in c.loop-left.reached.asked) ≤ length m.partials) e k.partials);
       asked_in_bounds = marks-done ok at d.marks_after;
       asked_in_bounds_2 = k.ritz_record;
     }
@@ -46,8 +58,10 @@ loop-left-preserved c =
     let k = d.auto in (
       omega (arith, i.0, c.loop-left-test.true),
       counted-down _ c.loop-left-test.true i.0
-          (closed-next ok i.1 d.ensures.output_after d.ensures.marks_after (to_come ok i.1 c.if-stage-eq20.false) t.ensures.result_value t.ensures.marks_after t.ensures.ritz_record_after (opened-marks _ _ _ _ c.requires.state_value c.requires.marks_value)),
-      same-on i.2 (record { inverse = k.inverse; v0 = k.v0; edge_columns = k.edge_columns; edge_weights = k.edge_weights; block0 = k.block0; block1 = k.block1; block2 = k.block2; partials = k.partials; marked = t.auto.marks ∙ k.marks; output = k.output; ritz_record = t.auto.ritz_record }),
+          (closed-next ok i.1 d.ensures.memory_after d.ensures.marks_after (to_come ok i.1 c.if-stage-eq20.false) (t.ensures.result_value ∙ ap (λ (m : Lent ieee64). closed_by ieee64 (stage_of c.loop-left.reached.progress.stage) (state_in c.loop-left.reached) m.v0 m.partials) c.view-seen.ensures) t.ensures.marks_after t.ensures.ritz_record_after (opened-marks _ _ _ _ c.requires.state_value c.requires.marks_value)),
+      t.auto.marks ∙ k.marks ∙ i.2,
+      t.auto.ritz_record ∙ i.3,
+      places_on i.4 d.ensures.same_places,
     )
 
 pub returns : goal.returns

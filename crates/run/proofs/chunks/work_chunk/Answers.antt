@@ -7,4 +7,4 @@ pub chunk_work-requires : goal.chunk_work-requires
 chunk_work-requires c = c.requires.ready
 
 pub returns : goal.returns
-returns c = record { output_after = c.chunk_work.ensures; marks_after = c.set_mark.ensures }
+returns c = record { memory_after = c.chunk_work.ensures.done; same_places = c.chunk_work.ensures.same_places; marks_after = c.set_mark.ensures }

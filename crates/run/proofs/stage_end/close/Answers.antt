@@ -3,7 +3,7 @@ use mathlib.Core.Path.{◌≡◌, refl, sym, ◌∙◌}
 use Rattle.definition.specs.Arith.{ieee64}
 use Rattle.input.specs.Said.{verdict_of}
 use Rattle.machine.specs.Ranges.{test_close}
-use Rattle.state.specs.Said.{state_in, lists_in, lent_all}
+use Rattle.state.specs.Said.{state_in, lists_of, all_seen}
 use Rattle.ready.proofs.Ready.{close_ready}
 use Rattle.run.proofs.Paths.{no_refusal, a_refusal, zero-passes, close-refused, close-taken}
 use Rattle.run.proofs.stage_end.close.Goals as goal
@@ -12,8 +12,8 @@ use Rattle.run.proofs.stage_end.close.Goals.{After-from-verdict}
 -- what the code found is the machine's test
 found : (t : After-from-verdict) → let a = t.args in
     verdict_of t.from-verdict.result
-    ≡ test_close ieee64 (state_in a.state) (lists_in a.starts.now a.columns.now a.values.now)
-    (lent_all a.inverse.now a.v0.now a.edge_columns.now a.edge_weights.now a.block0.now a.block1.now a.block2.now a.partials.now a.output.now a.ritz_record.now) a.marks.now
+    ≡ test_close ieee64 (state_in a.state) (lists_of a.graph)
+    (all_seen a.memory a.ritz_record.now) a.marks.now
 found t = t.from-verdict.ensures ∙ t.test_close-tested.ensures _ refl refl
 
 pub returns-then-is_err : goal.returns-then-is_err
