@@ -10,7 +10,7 @@ ghost use Rattle.std.specs.Prelude.{◌≡◌};
 ghost use Rattle.definition.specs.Arith.{ieee64};
 ghost use Rattle.machine.specs.Ready.{Ready};
 ghost use Rattle.machine.specs.Work.{work};
-ghost use Rattle.state.specs.Said.{lists_of, lent_of, SamePlaces};
+ghost use Rattle.state.specs.Said.{lists_of, lent_in, lent_of, SamePlaces};
 ghost use Rattle.stages.specs.Parts.{parts_of};
 
 use blocks::{Blocks, Chunk, Edges};
@@ -26,12 +26,28 @@ pub struct StateParts<'a> {
     pub order: &'a [usize; 15],
 }
 
-// The work of chunk h in the state's stage. Each stage is lent the lists that it reads or
-// writes, and no other; where no run is open there is no work.
-pub fn chunk_work<'a, 'g, 'm>(parts: StateParts<'a>, h: usize, graph: Graph<'g>, memory: &mut Memory<'m>)
-    requires { Ready ieee64 (parts_of parts) h (lists_of graph) (lent_of memory.old) }
-    ensures done { lent_of memory.new ≡ work ieee64 (parts_of parts.entry) (lists_of graph.entry) h (lent_of memory.old) }
-    ensures same_places { SamePlaces memory.old memory.new }
+// The work of chunk h in the state's stage. Each stage is lent the lists that it reads or writes, and no other; where no run is open there
+// is no work. The nine lists stand one by one here, and not in a `Memory`: tried, and of a list out of one record that a second record
+// (`Blocks`, `Edges`) has held, the check knows no number afterwards.
+fn stage_work<'a, 'g>(
+    parts: StateParts<'a>,
+    h: usize,
+    graph: Graph<'g>,
+    inverse: &mut [f64],
+    v0: &mut [f64],
+    edge_columns: &mut [u32],
+    edge_weights: &mut [f64],
+    block0: &mut [f64],
+    block1: &mut [f64],
+    block2: &mut [f64],
+    partials: &mut [f64],
+    output: &mut [f64],
+)
+    requires { Ready ieee64 (parts_of parts) h (lists_of graph)
+        (lent_in inverse.old v0.old edge_columns.old edge_weights.old block0.old block1.old block2.old partials.old output.old) }
+    ensures { lent_in inverse.new v0.new edge_columns.new edge_weights.new block0.new block1.new block2.new partials.new output.new
+        ≡ work ieee64 (parts_of parts.entry) (lists_of graph.entry) h
+        (lent_in inverse.old v0.old edge_columns.old edge_weights.old block0.old block1.old block2.old partials.old output.old) }
 {
     let StateParts {
         asked,
@@ -45,15 +61,6 @@ pub fn chunk_work<'a, 'g, 'm>(parts: StateParts<'a>, h: usize, graph: Graph<'g>,
         columns,
         values,
     } = graph;
-    let inverse = &mut *memory.inverse;
-    let v0 = &mut *memory.v0;
-    let edge_columns = &mut *memory.edge_columns;
-    let edge_weights = &mut *memory.edge_weights;
-    let block0 = &mut *memory.block0;
-    let block1 = &mut *memory.block1;
-    let block2 = &mut *memory.block2;
-    let partials = &mut *memory.partials;
-    let output = &mut *memory.output;
     let chunk = Chunk {
         asked,
         progress,
@@ -117,4 +124,31 @@ pub fn chunk_work<'a, 'g, 'm>(parts: StateParts<'a>, h: usize, graph: Graph<'g>,
         Stage::Scale => output::scale_stage(chunk, totals, output),
         Stage::Empty | Stage::Ended => {}
     }
+}
+
+// The same of a run's memory.
+pub fn chunk_work<'a, 'g, 'm>(
+    parts: StateParts<'a>,
+    h: usize,
+    graph: Graph<'g>,
+    memory: &mut Memory<'m>,
+)
+    requires { Ready ieee64 (parts_of parts) h (lists_of graph) (lent_of memory.old) }
+    ensures done { lent_of memory.new ≡ work ieee64 (parts_of parts.entry) (lists_of graph.entry) h (lent_of memory.old) }
+    ensures same_places { SamePlaces memory.old memory.new }
+{
+    stage_work(
+        parts,
+        h,
+        graph,
+        &mut *memory.inverse,
+        &mut *memory.v0,
+        &mut *memory.edge_columns,
+        &mut *memory.edge_weights,
+        &mut *memory.block0,
+        &mut *memory.block1,
+        &mut *memory.block2,
+        &mut *memory.partials,
+        &mut *memory.output,
+    );
 }

@@ -6,12 +6,12 @@ use Rattle.machine.specs.State.{Lists, State, Lent}
 use Rattle.machine.specs.Work.{work_by, work}
 use Rattle.state.specs.declared.stage.Stage.{Stage}
 use Rattle.state.specs.declared.stage.Stage.TheVariants as at
-use Rattle.state.specs.Said.{asked_in, lists_of, lent_of}
+use Rattle.state.specs.Said.{asked_in, lists_of, lent_in}
 use Rattle.state.specs.Stages.{stage_in, StageAt}
 use Rattle.stages.specs.Parts.{parts_of}
 use Rattle.stages.proofs.Arms.{pass-by, arm}
-use Rattle.stages.proofs.chunk_work.Goals as goal
-use Rattle.stages.proofs.chunk_work.Goals.{Start}
+use Rattle.stages.proofs.stage_work.Goals as goal
+use Rattle.stages.proofs.stage_work.Goals.{Start}
 
 -- the parts of the state as they came
 abbrev parts : Start → State ieee64
@@ -22,7 +22,10 @@ abbrev graph : Start → Lists ieee64
 graph s = lists_of s.args.graph
 
 abbrev lent : Start → Lent ieee64
-lent s = lent_of s.args.memory.now
+lent s =
+    let a = s.args in
+    lent_in a.inverse.now a.v0.now a.edge_columns.now a.edge_weights.now a.block0.now a.block1.now a.block2.now a.partials.now
+    a.output.now
 
 -- the work of the stage t is what is asked, where that is the state's
 at_stage : (s : Start) (t : Stage) {r : Stage} {after : Lent ieee64} → StageAt s.args.parts.progress.stage r → r ≡ t
@@ -30,123 +33,123 @@ at_stage : (s : Start) (t : Stage) {r : Stage} {after : Lent ieee64} → StageAt
     → after ≡ work ieee64 (parts s) (graph s) s.args.h (lent s)
 at_stage s t e p w = arm (parts s) (graph s) s.args.h (lent s) t e p w
 
-pub returns-in-Degrees-clause-done : goal.returns-in-Degrees-clause-done
-returns-in-Degrees-clause-done c =
-    let s = (goal.at.returns-in-Degrees-clause-done c).Start in
+pub returns-in-Degrees : goal.returns-in-Degrees
+returns-in-Degrees c =
+    let s = (goal.at.returns-in-Degrees c).Start in
     let m = lent s in
     at_stage s at.Degrees c.from-stage.ensures c.in-Degrees.is
     (c.degrees_stage.ensures (graph s).columns m.edge_columns m.edge_weights m.block0 m.block1 m.block2 m.partials m.output)
 
-pub returns-in-Edges-clause-done : goal.returns-in-Edges-clause-done
-returns-in-Edges-clause-done c =
-    let s = (goal.at.returns-in-Edges-clause-done c).Start in
+pub returns-in-Edges : goal.returns-in-Edges
+returns-in-Edges c =
+    let s = (goal.at.returns-in-Edges c).Start in
     let m = lent s in
     at_stage s at.Edges c.from-stage.ensures c.in-Edges.is
     (c.edges_stage.ensures m.v0 m.block0 m.block1 m.block2 m.partials m.output)
 
-pub returns-in-V0-clause-done : goal.returns-in-V0-clause-done
-returns-in-V0-clause-done c =
-    let s = (goal.at.returns-in-V0-clause-done c).Start in
+pub returns-in-V0 : goal.returns-in-V0
+returns-in-V0 c =
+    let s = (goal.at.returns-in-V0 c).Start in
     let m = lent s in
     at_stage s at.V0 c.from-stage.ensures c.in-V0.is
     (c.v0_stage.ensures m.inverse m.edge_columns m.edge_weights m.block0 m.block1 m.block2 m.partials m.output)
 
-pub returns-in-StartBlock-clause-done : goal.returns-in-StartBlock-clause-done
-returns-in-StartBlock-clause-done c =
-    let s = (goal.at.returns-in-StartBlock-clause-done c).Start in
+pub returns-in-StartBlock : goal.returns-in-StartBlock
+returns-in-StartBlock c =
+    let s = (goal.at.returns-in-StartBlock c).Start in
     let m = lent s in
     at_stage s at.StartBlock c.from-stage.ensures c.in-StartBlock.is
     (c.start_stage.ensures m.inverse m.v0 m.edge_columns m.edge_weights m.block1 m.block2 m.partials m.output)
 
-pub returns-in-NormBefore-clause-done : goal.returns-in-NormBefore-clause-done
-returns-in-NormBefore-clause-done c =
-    let s = (goal.at.returns-in-NormBefore-clause-done c).Start in
+pub returns-in-NormBefore : goal.returns-in-NormBefore
+returns-in-NormBefore c =
+    let s = (goal.at.returns-in-NormBefore c).Start in
     let m = lent s in
     let done = c.norm_stage.ensures m.inverse m.v0 m.edge_columns m.edge_weights m.output in
     ⊎_elim (λ k. at_stage s at.NormBefore c.from-stage.ensures k done) (λ k. at_stage s at.NormAfter c.from-stage.ensures k done) c.in-NormBefore.is
 
-pub returns-in-FirstDots-clause-done : goal.returns-in-FirstDots-clause-done
-returns-in-FirstDots-clause-done c =
-    let s = (goal.at.returns-in-FirstDots-clause-done c).Start in
+pub returns-in-FirstDots : goal.returns-in-FirstDots
+returns-in-FirstDots c =
+    let s = (goal.at.returns-in-FirstDots c).Start in
     let m = lent s in
     let done = c.dots_stage.ensures m.inverse m.edge_columns m.edge_weights m.output in
     ⊎_elim (λ k. at_stage s at.FirstDots c.from-stage.ensures k done) (λ k. at_stage s at.SecondDots c.from-stage.ensures k done) c.in-FirstDots.is
 
-pub returns-in-FirstSubtract-clause-done : goal.returns-in-FirstSubtract-clause-done
-returns-in-FirstSubtract-clause-done c =
-    let s = (goal.at.returns-in-FirstSubtract-clause-done c).Start in
+pub returns-in-FirstSubtract : goal.returns-in-FirstSubtract
+returns-in-FirstSubtract c =
+    let s = (goal.at.returns-in-FirstSubtract c).Start in
     let m = lent s in
     let done = c.subtract_stage.ensures m.inverse m.edge_columns m.edge_weights m.partials m.output in
     ⊎_elim (λ k. at_stage s at.FirstSubtract c.from-stage.ensures k done) (λ k. at_stage s at.SecondSubtract c.from-stage.ensures k done) c.in-FirstSubtract.is
 
-pub returns-in-Write-clause-done : goal.returns-in-Write-clause-done
-returns-in-Write-clause-done c =
-    let s = (goal.at.returns-in-Write-clause-done c).Start in
+pub returns-in-Write : goal.returns-in-Write
+returns-in-Write c =
+    let s = (goal.at.returns-in-Write c).Start in
     let m = lent s in
     at_stage s at.Write c.from-stage.ensures c.in-Write.is
     (c.write_stage.ensures m.inverse m.v0 m.edge_columns m.edge_weights m.partials m.output)
 
-pub returns-in-Products-clause-done : goal.returns-in-Products-clause-done
-returns-in-Products-clause-done c =
-    let s = (goal.at.returns-in-Products-clause-done c).Start in
+pub returns-in-Products : goal.returns-in-Products
+returns-in-Products c =
+    let s = (goal.at.returns-in-Products c).Start in
     let m = lent s in
     at_stage s at.Products c.from-stage.ensures c.in-Products.is
     (c.products_stage.ensures m.inverse m.v0 m.edge_columns m.edge_weights m.output)
 
-pub returns-in-Rotate-clause-done : goal.returns-in-Rotate-clause-done
-returns-in-Rotate-clause-done c =
-    let s = (goal.at.returns-in-Rotate-clause-done c).Start in
+pub returns-in-Rotate : goal.returns-in-Rotate
+returns-in-Rotate c =
+    let s = (goal.at.returns-in-Rotate c).Start in
     let m = lent s in
     at_stage s at.Rotate c.from-stage.ensures c.in-Rotate.is
     (c.rotate_stage.ensures m.v0 m.edge_columns m.edge_weights m.partials)
 
-pub returns-in-Sums-clause-done : goal.returns-in-Sums-clause-done
-returns-in-Sums-clause-done c =
-    let s = (goal.at.returns-in-Sums-clause-done c).Start in
+pub returns-in-Sums : goal.returns-in-Sums
+returns-in-Sums c =
+    let s = (goal.at.returns-in-Sums c).Start in
     let m = lent s in
     at_stage s at.Sums c.from-stage.ensures c.in-Sums.is
     (c.sums_stage.ensures m.inverse m.v0 m.edge_columns m.edge_weights m.block0 m.block1 m.block2)
 
-pub returns-in-Centre-clause-done : goal.returns-in-Centre-clause-done
-returns-in-Centre-clause-done c =
-    let s = (goal.at.returns-in-Centre-clause-done c).Start in
+pub returns-in-Centre : goal.returns-in-Centre
+returns-in-Centre c =
+    let s = (goal.at.returns-in-Centre c).Start in
     let m = lent s in
     at_stage s at.Centre c.from-stage.ensures c.in-Centre.is
     (c.centre_stage.ensures m.inverse m.v0 m.edge_columns m.edge_weights m.block0 m.block1 m.block2 m.partials)
 
-pub returns-in-Squares-clause-done : goal.returns-in-Squares-clause-done
-returns-in-Squares-clause-done c =
-    let s = (goal.at.returns-in-Squares-clause-done c).Start in
+pub returns-in-Squares : goal.returns-in-Squares
+returns-in-Squares c =
+    let s = (goal.at.returns-in-Squares c).Start in
     let m = lent s in
     at_stage s at.Squares c.from-stage.ensures c.in-Squares.is
     (c.squares_stage.ensures m.inverse m.v0 m.edge_columns m.edge_weights m.block0 m.block1 m.block2)
 
-pub returns-in-Scale-clause-done : goal.returns-in-Scale-clause-done
-returns-in-Scale-clause-done c =
-    let s = (goal.at.returns-in-Scale-clause-done c).Start in
+pub returns-in-Scale : goal.returns-in-Scale
+returns-in-Scale c =
+    let s = (goal.at.returns-in-Scale c).Start in
     let m = lent s in
     at_stage s at.Scale c.from-stage.ensures c.in-Scale.is
     (c.scale_stage.ensures m.inverse m.v0 m.edge_columns m.edge_weights m.block0 m.block1 m.block2 m.partials)
 
-pub returns-in-FilterPass-clause-done : goal.returns-in-FilterPass-clause-done
-returns-in-FilterPass-clause-done c =
-    let s = (goal.at.returns-in-FilterPass-clause-done c).Start in
+pub returns-in-FilterPass : goal.returns-in-FilterPass
+returns-in-FilterPass c =
+    let s = (goal.at.returns-in-FilterPass c).Start in
     let m = lent s in
     let p = c.args.parts.progress in
     at_stage s at.FilterPass c.from-stage.ensures c.in-FilterPass.is
     (pass-by (asked_in c.args.parts.asked) p.current p.previous (graph s) s.args.h m c.filter_by-by.ensures
     (c.pass_stage.ensures (graph s).columns (graph s).values m.v0 m.partials m.output))
 
-pub returns-in-PlainPass-clause-done : goal.returns-in-PlainPass-clause-done
-returns-in-PlainPass-clause-done c =
-    let s = (goal.at.returns-in-PlainPass-clause-done c).Start in
+pub returns-in-PlainPass : goal.returns-in-PlainPass
+returns-in-PlainPass c =
+    let s = (goal.at.returns-in-PlainPass c).Start in
     let m = lent s in
     let p = c.args.parts.progress in
     at_stage s at.PlainPass c.from-stage.ensures c.in-PlainPass.is
     (pass-by (asked_in c.args.parts.asked) p.current p.current (graph s) s.args.h m c.plain_multipliers-by.ensures
     (c.pass_stage-in-PlainPass.ensures (graph s).columns (graph s).values m.v0 m.partials m.output))
 
-pub returns-in-Empty-clause-done : goal.returns-in-Empty-clause-done
-returns-in-Empty-clause-done c =
-    let s = (goal.at.returns-in-Empty-clause-done c).Start in
+pub returns-in-Empty : goal.returns-in-Empty
+returns-in-Empty c =
+    let s = (goal.at.returns-in-Empty c).Start in
     ⊎_elim (λ k. at_stage s at.Empty c.from-stage.ensures k refl) (λ k. at_stage s at.Ended c.from-stage.ensures k refl) c.in-Empty.is
