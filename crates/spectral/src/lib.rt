@@ -16,7 +16,7 @@ ghost use Rattle.spectral.specs.Said.{whole_in, done_up, params_asked};
 use input::{SpectralParams, Verdict};
 use state::{Counts, State};
 
-// The verdict and the counts of the whole run; zero counts with a refusal.
+// The verdict and the counts of the whole run; zero counts with a refusal. A record and no `Result`: C gets it of `threshcinch_spectral_embedding`.
 #[repr(C)]
 #[derive(Drop)]
 pub struct Embedded {
@@ -80,8 +80,7 @@ fn all_chunks(
     }
 }
 
-// Stage after stage, from the opened state to the end. A run has fewer than 2,000,000 stages, so the loop is always left by its return: the
-// count only shows that it ends.
+// Stage after stage, from the opened state to the end. A run has fewer than 2,000,000 stages, so the loop is always left by its return.
 fn all_stages(
     state: State,
     starts: &[u64],
@@ -114,8 +113,7 @@ fn all_stages(
     ensures marks_unchanged { marks.new ≡ marks.old }
 {
     let mut reached = state;
-    let mut left: usize = 2000000;
-    while 0 < left {
+    for closed in 0..2000000 {
         let progress = reached.progress;
         let stage = progress.stage;
         if stage == 20 {
@@ -138,7 +136,6 @@ fn all_stages(
             output,
         );
         reached = run::close_stage(reached, v0, partials, marks, ritz_record);
-        left -= 1;
     }
     reached.counts
 }

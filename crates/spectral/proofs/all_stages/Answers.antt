@@ -1,26 +1,26 @@
 use mathlib.Core.Path.{◌∙◌}
 use native.Mathlib.Omega.{arith}
 use Rattle.spectral.proofs.Lengths.{same, same-on}
-use Rattle.spectral.proofs.Stages.{none-closed, opened-marks, to_come, chunks_ready, marks-here, closable, marks-done, closed-next, counted-down, ended, never_out}
+use Rattle.spectral.proofs.Stages.{none-closed, opened-marks, to_come, chunks_ready, marks-here, closable, marks-done, closed-next, ended, never_out}
 use Rattle.spectral.proofs.all_stages.Goals as goal
 
-pub loop-left-init : goal.loop-left-init
-loop-left-init c = (omega arith, none-closed _ _ _ _ _ _ c.requires.state_value, same _ _)
+pub loop-closed-init : goal.loop-closed-init
+loop-closed-init c = (none-closed _ _ _ _ _ _ c.requires.state_value, same _ _)
 
 pub returns-then-stage-eq20 : goal.returns-then-stage-eq20
 returns-then-stage-eq20 c =
-    let e = ended c.requires.accepted c.loop-left.invariant.1 c.if-stage-eq20.true in
+    let e = ended c.requires.accepted c.loop-closed.invariant.0 c.if-stage-eq20.true in
     record { result_value = e.0; ritz_record_after = e.1.0; marks_unchanged = e.1.1 }
 
 pub all_chunks-requires : goal.all_chunks-requires
 all_chunks-requires c =
-    let at = c.loop-left.invariant.1 in
+    let at = c.loop-closed.invariant.0 in
     let ok = c.requires.accepted in
     record { by_index = chunks_ready ok at; asked_in_bounds = marks-here ok at }
 
 pub close_stage-reached-requires : goal.close_stage-reached-requires
 close_stage-reached-requires c =
-    let at = c.loop-left.invariant.1 in
+    let at = c.loop-closed.invariant.0 in
     let ok = c.requires.accepted in
     let d = c.all_chunks.ensures in
     let k = closable ok at d.output_after in
@@ -31,26 +31,18 @@ close_stage-reached-requires c =
       asked_in_bounds_2 = k.ritz_record;
     }
 
-pub overflow_sub-left : goal.overflow_sub-left
-overflow_sub-left c = omega (arith, c.loop-left-test.true)
-
-pub loop-left-smaller : goal.loop-left-smaller
-loop-left-smaller c = omega (arith, c.loop-left-test.true)
-
-pub loop-left-preserved : goal.loop-left-preserved
-loop-left-preserved c =
-    let i = c.loop-left.invariant in
+pub loop-closed-preserved : goal.loop-closed-preserved
+loop-closed-preserved c =
+    let i = c.loop-closed.invariant in
     let ok = c.requires.accepted in
     let d = c.all_chunks in
     let t = c.close_stage-reached in
     let k = d.auto in (
-      omega (arith, i.0, c.loop-left-test.true),
-      counted-down _ c.loop-left-test.true i.0
-          (closed-next ok i.1 d.ensures.output_after d.ensures.marks_after (to_come ok i.1 c.if-stage-eq20.false) t.ensures.result_value t.ensures.marks_after t.ensures.ritz_record_after (opened-marks _ _ _ _ c.requires.state_value c.requires.marks_value)),
-      same-on i.2 (record { inverse = k.inverse; v0 = k.v0; edge_columns = k.edge_columns; edge_weights = k.edge_weights; block0 = k.block0; block1 = k.block1; block2 = k.block2; partials = k.partials; marked = t.auto.marks ∙ k.marks; output = k.output; ritz_record = t.auto.ritz_record }),
+      closed-next ok i.0 d.ensures.output_after d.ensures.marks_after (to_come ok i.0 c.if-stage-eq20.false) t.ensures.result_value t.ensures.marks_after t.ensures.ritz_record_after (opened-marks _ _ _ _ c.requires.state_value c.requires.marks_value),
+      same-on i.1 (record { inverse = k.inverse; v0 = k.v0; edge_columns = k.edge_columns; edge_weights = k.edge_weights; block0 = k.block0; block1 = k.block1; block2 = k.block2; partials = k.partials; marked = t.auto.marks ∙ k.marks; output = k.output; ritz_record = t.auto.ritz_record }),
     )
 
 pub returns : goal.returns
 returns c =
-    let i = c.loop-left.invariant in
-    absurd (never_out c.requires.accepted i.1 (omega (arith, i.0, c.loop-left-test.false)))
+    let i = c.loop-closed.invariant in
+    absurd (never_out c.requires.accepted i.0 (omega (arith, c.loop-closed-test.false)))
