@@ -113,7 +113,7 @@ fn all_stages(
     ensures marks_unchanged { marks.new ≡ marks.old }
 {
     let mut reached = state;
-    for closed in 0..2000000 {
+    for closed in 0..2_000_000usize {
         let progress = reached.progress;
         let stage = progress.stage;
         if stage == 20 {
@@ -190,6 +190,7 @@ pub fn spectral_embedding(
         &output[..],
         &ritz_record[..],
     );
+    // what was opened is C's record, so its verdict is asked for its number
     let verdict = opened.verdict;
     let is_refused = verdict.number != 0;
     if is_refused {

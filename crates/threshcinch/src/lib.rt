@@ -1,14 +1,15 @@
 // The library for C, Rust and Python: every function here can be called from outside, and none asks for anything first. include/threshcinch.h
 // says in words what each contract says.
 //
-// A slice crosses as its address and its length, a record by value.
+// A slice crosses as its address and its length, a record by value. A refusal crosses in such a record, as `Verdict`, `Set`, `Sizes`, `Answer`
+// and `Embedded` have it: C has no `Result`.
 #![tactic(auto)]
 
-ghost use Rattle.std.specs.Prelude.{◌≡◌, ◌||◌, ltb, replicate};
+ghost use Rattle.std.specs.Prelude.{◌≡◌, ◌||◌, ltb};
 ghost use Rattle.definition.specs.Arith.{ieee64};
-ghost use Rattle.definition.specs.Numbers.{chunks, defaults, dims_most, rows_most, entries_most, rounds_most, lent_count};
-ghost use Rattle.definition.specs.Refusals.{refused, within, test_rounds, test_degree, test_seed_std, set_rounds, set_degree, set_seed_std};
-ghost use Rattle.input.specs.Said.{verdict_of, params_of, Answered};
+ghost use Rattle.definition.specs.Numbers.{chunks, defaults, rows_most, entries_most};
+ghost use Rattle.definition.specs.Refusals.{test_rounds, test_degree, test_seed_std, set_rounds, set_degree, set_seed_std};
+ghost use Rattle.input.specs.Said.{verdict_of, verdict_in, params_of, Answered};
 ghost use Rattle.machine.specs.Calls.{open_call, chunk_call, close_call};
 ghost use Rattle.machine.specs.Progress.{calls_accepted, calls_owed};
 ghost use Rattle.promises.specs.OneCall.{whole_call};

@@ -16,12 +16,6 @@ work_chunk-requires c =
     let l : c.loop-h.h < chunk_count (asked_in c.args.state.asked) = omega (arith, i.0, c.loop-h-test.true) in
     record { ready = next_ready i.1 c.requires.by_index l; h_in_bounds = next-marked i.1 c.requires.asked_in_bounds l }
 
-pub overflow_add-h : goal.overflow_add-h
-overflow_add-h c = omega (arith, c.loop-h-test.true, c.chunk_count-chunks.type_inv)
-
-pub loop-h-smaller : goal.loop-h-smaller
-loop-h-smaller c = omega (arith, c.loop-h-test.true)
-
 pub loop-h-preserved : goal.loop-h-preserved
 loop-h-preserved c =
     let w = c.work_chunk in
