@@ -7,7 +7,7 @@ use Rattle.definition.specs.Numbers.{Params}
 use Rattle.definition.specs.Refusals as definition
 use Rattle.input.specs.declared.refusal.Refusal.{Refusal}
 use Rattle.input.specs.declared.refusal.Refusal.TheVariants as R
-use Rattle.input.specs.declared.refusal.Verdict.{Verdict}
+use Rattle.input.specs.declared.Verdict.{Verdict}
 use Rattle.input.specs.declared.SpectralParams.{SpectralParams}
 use Rattle.input.specs.declared.Set.{Set}
 use Rattle.input.specs.Said.{verdict_of, refusal_of, verdict_in, params_of, set_in, Answered}

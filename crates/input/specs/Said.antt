@@ -6,7 +6,7 @@ use Rattle.definition.specs.Numbers.{Params, dims_most, rows_most, entries_most,
 use Rattle.definition.specs.Refusals as definition
 use Rattle.input.specs.declared.refusal.Refusal.{Refusal}
 use Rattle.input.specs.declared.refusal.Refusal.TheVariants as R
-use Rattle.input.specs.declared.refusal.Verdict.{Verdict}
+use Rattle.input.specs.declared.Verdict.{Verdict}
 use Rattle.input.specs.declared.SpectralParams.{SpectralParams}
 use Rattle.input.specs.declared.Set.{Set}
 

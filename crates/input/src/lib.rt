@@ -13,11 +13,19 @@ mod request;
 mod scan;
 
 pub use chunks::{chunk_count, end_row, first_row};
-pub use refusal::{Refusal, Verdict};
+pub use refusal::Refusal;
 pub use request::{
     lent_sizes, row_count, test_dims, test_graph, test_lent, test_params, test_request,
-    test_seed_std, within,
+    test_rounds, test_seed_std, within,
 };
+
+// A refusal's number and its place; number 0 is no refusal. C gets it so.
+#[repr(C)]
+#[derive(Clone, Copy, Debug, PartialEq, Eq)]
+pub struct Verdict {
+    pub number: u64,
+    pub place: u64,
+}
 
 // What a caller may set.
 #[repr(C)]

@@ -2,6 +2,8 @@
 ghost use Rattle.std.specs.Prelude.{◌≡◌};
 ghost use Rattle.input.specs.Said.{verdict_of, refusal_of, verdict_in};
 
+use crate::Verdict;
+
 // Numbers 1 to 19 in their order; a refusal with a place has it beside it.
 #[derive(Clone, Copy, Debug, PartialEq, Eq)]
 pub enum Refusal {
@@ -66,14 +68,6 @@ impl Refusal {
             _ => 0,
         }
     }
-}
-
-// A refusal's number and its place; number 0 is no refusal. C gets it so.
-#[repr(C)]
-#[derive(Clone, Copy, Debug, PartialEq, Eq)]
-pub struct Verdict {
-    pub number: u64,
-    pub place: u64,
 }
 
 impl From<Result<(), Refusal>> for Verdict {

@@ -36,5 +36,5 @@ pub extern "C" fn input_test_request(
     ensures { verdict_of result ≡ test_request ieee64 d (params_of params) starts.now columns.now values.now (wholes_of lent.lengths) }
 {
     let lengths = lent.lengths;
-    input::test_request(d, params, starts, columns, values, lengths)
+    Verdict::from(input::test_request(d, params, starts, columns, values, lengths))
 }

@@ -19,7 +19,7 @@ const ROWS_MOST: usize = 64;
 fn test_seed(d: u64, n: usize, numbers: usize) -> Verdict
     ensures { verdict_of result ≡ test_seed d n numbers }
 {
-    let dims = input::test_dims(d);
+    let dims = Verdict::from(input::test_dims(d));
     if dims.number != 0 {
         return dims;
     }

@@ -149,12 +149,6 @@ module _ {d : ℕ} {params : Params} {g : Lists ieee64} {m : Lent ieee64} {marks
   pub never_out : p ≡ 2000000 → ⊥
   never_out e = omega (arith, few d params g m marks ok, at.within)
 
--- a turn more is a turn less to come
-pub counted-down : {d : ℕ} {params : Params} {g : Lists ieee64} {m : Lent ieee64} {marks : List ℕ} {s : State ieee64} {l : Lent ieee64} {k : List ℕ} (left : ℕ)
-    → 0 < left → left ≤ 2000000 → At d params g m marks (2000000 - left + 1) s l k → At d params g m marks (2000000 - (left - 1)) s l k
-counted-down {d} {params} {g} {m} {marks} {s} {l} {k} left p q at =
-    subst (λ (i : ℕ). At d params g m marks i s l k) (let e : 2000000 - left + 1 ≡ 2000000 - (left - 1) = omega arith in e) at
-
 -- the marks as they are at the start: cleared, of the chunks that were asked for
 pub opened-marks : (d : ℕ) (params : Params) (g : Lists ieee64) {s : State ieee64} (marks : List ℕ) → s ≡ opened_state ieee64 d params g
     → marks ≡ cleared (chunk_count s.asked) marks → marks ≡ cleared (chunk_count (asked_of ieee64 d params g)) marks

@@ -17,7 +17,7 @@ use input::{SpectralParams, Verdict};
 use stages::StateParts;
 use state::{Counts, Graph, Memory, State};
 
-// The verdict and the counts of the whole run; zero counts with a refusal.
+// The verdict and the counts of the whole run; zero counts with a refusal. A record and no `Result`: C gets it of `threshcinch_spectral_embedding`.
 #[repr(C)]
 #[derive(Drop)]
 pub struct Embedded {
@@ -49,8 +49,7 @@ fn all_chunks<'g, 'm>(state: State, graph: Graph<'g>, memory: &mut Memory<'m>, m
     }
 }
 
-// Stage after stage, from the opened state to the end. A run has fewer than 2,000,000 stages, so the loop is always left by its return: the
-// count only shows that it ends.
+// Stage after stage, from the opened state to the end. A run has fewer than 2,000,000 stages, so the loop is always left by its return.
 fn all_stages<'g, 'm>(
     state: State,
     graph: Graph<'g>,
@@ -70,8 +69,7 @@ fn all_stages<'g, 'm>(
     ensures marks_unchanged { marks.new ≡ marks.old }
 {
     let mut reached = state;
-    let mut left: usize = 2000000;
-    while 0 < left {
+    for closed in 0..2_000_000usize {
         let progress = reached.progress;
         let stage = progress.stage;
         if stage == 20 {
@@ -80,7 +78,6 @@ fn all_stages<'g, 'm>(
         all_chunks(reached, graph, memory, marks);
         let seen = memory.view();
         reached = run::close_stage(reached, seen.v0, seen.partials, marks, ritz_record);
-        left -= 1;
     }
     reached.counts
 }

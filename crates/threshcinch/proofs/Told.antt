@@ -1,65 +1,48 @@
--- Which refusal sizes meet, and what the sizes are then. Assumes nothing.
-use mathlib.Core.Path.{◌≡◌, ap, ◌∙◌}
-use mathlib.Core.Bool.{Bool, true, false, cond, not, ◌||◌}
+-- What the sizes are, with a refusal and with none, and that none overflows then. Assumes nothing.
+use mathlib.Core.Path.{◌≡◌, sym, ap, ◌∙◌}
+use mathlib.Core.Bool.{Bool, true, false, cond, not, ◌||◌, false≢true}
 use Prim.Native.Nat.{ℕ}
-use borrow.Author.Tests.{leb-true, ltb-false}
-use lib.Dec.{eqb, leb, ltb}
+use borrow.Author.Tests.{leb-true, ltb-false, not-false, ne_eqb}
+use lib.Dec.{leb, ltb}
 use lib.ListN.{replicate}
-use Rattle.definition.specs.Numbers.{dims_most, rows_most, entries_most, rounds_most, lent_sizes, lent_count}
-use Rattle.definition.specs.Refusals.{Verdict, or_else, given, refused, accepted, within, test_dims, test_rounds}
-use Rattle.input.specs.Said.{Allowed}
+use Rattle.std.specs.Prelude.{Result, Ok, Err, is_err}
+use Rattle.definition.specs.Numbers.{rows_most, entries_most, rounds_most, lent_sizes, lent_count}
+use Rattle.definition.specs.Refusals.{Verdict, within, test_rounds}
+use Rattle.input.specs.declared.refusal.Refusal.{Refusal}
+use Rattle.input.specs.Said.{refusal_of, verdict_in, Allowed}
+use Rattle.input.proofs.Accepted.{no-fault, both_pass, dims_valid}
+use Rattle.input.proofs.Verdicts.{numbered}
 use Rattle.machine.proofs.Own.{both_of}
 use Rattle.ready.proofs.Tested.{neither}
 use Rattle.threshcinch.specs.Said.{test_sizes, sizes_by}
 
 module _ (d rounds n m : ℕ) where
-  -- the test, by the answers of its parts
-  abbrev by : Bool → Bool → Bool → Bool → Verdict
-  by dims none over few = or_else (given (not dims) 1 0) (or_else (given none 2 0) (or_else (given over 3 0) (given (not few) 8 0)))
-
-  abbrev over : Bool
-  over = ltb rows_most n || ltb entries_most m
-
-  abbrev few : Bool
-  few = within rounds rounds_most
-
-  pub met_1 : within d dims_most ≡ false → test_sizes d rounds n m ≡ refused 1 0
-  unfolding test_sizes test_dims test_rounds or_else
-  met_1 e = ap (λ (b : Bool). by b (ltb n 1) over few) e
-
-  pub met_2 : within d dims_most ≡ true → ltb n 1 ≡ true → test_sizes d rounds n m ≡ refused 2 0
-  unfolding test_sizes test_dims test_rounds or_else
-  met_2 e f = ap (λ (b : Bool). by b (ltb n 1) over few) e ∙ ap (λ (b : Bool). by true b over few) f
-
-  pub met_3 : within d dims_most ≡ true → ltb n 1 ≡ false → over ≡ true → test_sizes d rounds n m ≡ refused 3 0
-  unfolding test_sizes test_dims test_rounds or_else
-  met_3 e f g = ap (λ (b : Bool). by b (ltb n 1) over few) e ∙ ap (λ (b : Bool). by true b over few) f ∙ ap (λ (b : Bool). by true false b few) g
-
-  -- none of these: the rounds decide
-  sized : within d dims_most ≡ true → ltb n 1 ≡ false → over ≡ false → test_sizes d rounds n m ≡ by true false false few
-  unfolding test_sizes test_dims test_rounds or_else
-  sized e f g = ap (λ (b : Bool). by b (ltb n 1) over few) e ∙ ap (λ (b : Bool). by true b over few) f ∙ ap (λ (b : Bool). by true false b few) g
-
-  pub met_8 : within d dims_most ≡ true → ltb n 1 ≡ false → over ≡ false → few ≡ false → test_sizes d rounds n m ≡ refused 8 0
-  unfolding or_else
-  met_8 e f g h = sized e f g ∙ ap (by true false false) h
-
-  pub met_0 : within d dims_most ≡ true → ltb n 1 ≡ false → over ≡ false → few ≡ true → test_sizes d rounds n m ≡ accepted
-  unfolding or_else
-  met_0 e f g h = sized e f g ∙ ap (by true false false) h
-
-  pub no_sizes : (r : ℕ) → eqb r 0 ≡ false → test_sizes d rounds n m ≡ refused r 0 → sizes_by (test_sizes d rounds n m) d rounds n m ≡ replicate lent_count 0
+  -- r is the answer that the code's test gave
+  pub no_sizes : (r : Result Unit Refusal) → is_err r ≡ true → verdict_in r ≡ test_sizes d rounds n m
+      → sizes_by (test_sizes d rounds n m) d rounds n m ≡ replicate lent_count 0
   unfolding sizes_by
-  no_sizes r e f = ap (λ (v : Verdict). sizes_by v d rounds n m) f ∙ ap (λ (b : Bool). cond b (lent_sizes d rounds n m) (replicate lent_count 0)) e
+  no_sizes (Ok x) h e = absurd (false≢true h)
+  no_sizes (Err q) h e =
+      ap (λ (v : Verdict). sizes_by v d rounds n m) (sym e)
+      ∙ ap (λ (b : Bool). cond b (lent_sizes d rounds n m) (replicate lent_count 0)) (ne_eqb (refusal_of q).number 0 (numbered q))
 
-  pub all_sizes : test_sizes d rounds n m ≡ accepted → sizes_by (test_sizes d rounds n m) d rounds n m ≡ lent_sizes d rounds n m
+  pub all_sizes : (r : Result Unit Refusal) → is_err r ≡ false → verdict_in r ≡ test_sizes d rounds n m
+      → sizes_by (test_sizes d rounds n m) d rounds n m ≡ lent_sizes d rounds n m
   unfolding sizes_by
-  all_sizes e = ap (λ (v : Verdict). sizes_by v d rounds n m) e
+  all_sizes (Ok x) h e = ap (λ (v : Verdict). sizes_by v d rounds n m) (sym e)
+  all_sizes (Err q) h e = absurd (false≢true (sym h))
 
-  pub allowed : within d dims_most ≡ true → over ≡ false → few ≡ true → Allowed d rounds n m
-  allowed e g h = record {
-    dims = leb-true d dims_most (both_of (leb 1 d) (leb d dims_most) e).1;
-    rounds-few = leb-true rounds rounds_most (both_of (leb 1 rounds) (leb rounds rounds_most) h).1;
-    rows = ltb-false rows_most n (neither (ltb rows_most n) (ltb entries_most m) g).0;
-    entries = ltb-false entries_most m (neither (ltb rows_most n) (ltb entries_most m) g).1;
-  }
+  pub allowed : (test_sizes d rounds n m).number ≡ 0 → Allowed d rounds n m
+  unfolding test_sizes test_rounds
+  allowed h =
+      let dims = both_pass _ _ h in
+      let rows = both_pass _ _ dims.1 in
+      let over = both_pass _ _ rows.1 in
+      let limits = neither (ltb rows_most n) (ltb entries_most m) (no-fault (ltb rows_most n || ltb entries_most m) 2 0 over.0) in
+      let few : within rounds rounds_most ≡ true = not-false (within rounds rounds_most) (no-fault (not (within rounds rounds_most)) 7 0 over.1) in
+      record {
+        dims = (dims_valid d dims.0).1;
+        rounds-few = leb-true rounds rounds_most (both_of (leb 1 rounds) (leb rounds rounds_most) few).1;
+        rows = ltb-false rows_most n limits.0;
+        entries = ltb-false entries_most m limits.1;
+      }

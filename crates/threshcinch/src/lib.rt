@@ -1,14 +1,15 @@
 // The library for C, Rust and Python: every function here can be called from outside, and none asks for anything first. include/threshcinch.h
 // says in words what each contract says.
 //
-// A slice crosses as its address and its length, a record by value.
+// A slice crosses as its address and its length, a record by value. A refusal crosses in such a record, as `Verdict`, `Set`, `Sizes`, `Answer`
+// and `Embedded` have it: C has no `Result`.
 #![tactic(auto)]
 
-ghost use Rattle.std.specs.Prelude.{◌≡◌, ◌||◌, ltb, replicate};
+ghost use Rattle.std.specs.Prelude.{◌≡◌, ◌||◌, ltb};
 ghost use Rattle.definition.specs.Arith.{ieee64};
-ghost use Rattle.definition.specs.Numbers.{chunks, defaults, dims_most, rows_most, entries_most, rounds_most, lent_count};
-ghost use Rattle.definition.specs.Refusals.{refused, within, test_rounds, test_degree, test_seed_std, set_rounds, set_degree, set_seed_std};
-ghost use Rattle.input.specs.Said.{verdict_of, params_of, Answered};
+ghost use Rattle.definition.specs.Numbers.{chunks, defaults, rows_most, entries_most};
+ghost use Rattle.definition.specs.Refusals.{test_rounds, test_degree, test_seed_std, set_rounds, set_degree, set_seed_std};
+ghost use Rattle.input.specs.Said.{verdict_of, verdict_in, params_of, Answered};
 ghost use Rattle.machine.specs.Calls.{open_call, chunk_call, close_call};
 ghost use Rattle.machine.specs.Progress.{calls_accepted, calls_owed};
 ghost use Rattle.promises.specs.OneCall.{whole_call};
@@ -16,7 +17,7 @@ ghost use Rattle.spectral.specs.Said.{whole_in};
 ghost use Rattle.state.specs.Said.{state_in, lists_in, lent_all, outcome_in};
 ghost use Rattle.threshcinch.specs.Said.{test_sizes, sizes_by};
 
-use input::{Set, SpectralParams, Verdict};
+use input::{Refusal, Set, SpectralParams, Verdict};
 use spectral::Embedded;
 use state::{Answer, Graph, Memory, MemoryView, State};
 
@@ -44,21 +45,21 @@ pub extern "C" fn threshcinch_params_new() -> SpectralParams
 pub extern "C" fn threshcinch_params_rounds(params: SpectralParams, rounds: u64) -> Set
     ensures { Answered (test_rounds rounds) (set_rounds (params_of params) rounds) result }
 {
-    params.rounds(rounds)
+    Set::of(params.rounds(rounds), params)
 }
 
 #[unsafe(no_mangle)]
 pub extern "C" fn threshcinch_params_degree(params: SpectralParams, degree: u64) -> Set
     ensures { Answered (test_degree degree) (set_degree (params_of params) degree) result }
 {
-    params.degree(degree)
+    Set::of(params.degree(degree), params)
 }
 
 #[unsafe(no_mangle)]
 pub extern "C" fn threshcinch_params_seed_std(params: SpectralParams, seed_std: f64) -> Set
     ensures { Answered (test_seed_std seed_std) (set_seed_std (params_of params) seed_std) result }
 {
-    params.seed_std(seed_std)
+    Set::of(params.seed_std(seed_std), params)
 }
 
 // ---- sizes
@@ -70,13 +71,6 @@ pub extern "C" fn threshcinch_chunk_count(rows: usize) -> usize
     input::chunk_count(rows)
 }
 
-// D from 1 to 7.
-fn is_dims(d: u64) -> bool
-    ensures { result ≡ within d dims_most }
-{
-    1 <= d && d <= SpectralParams::DIMS_MOST
-}
-
 // More rows or entries than a graph may have.
 fn is_over(rows: usize, entries: usize) -> bool
     ensures { result ≡ (ltb rows_most rows || ltb entries_most entries) }
@@ -84,21 +78,18 @@ fn is_over(rows: usize, entries: usize) -> bool
     SpectralParams::ROWS_MOST < rows || SpectralParams::ENTRIES_MOST < entries
 }
 
-// Rounds from 1 to 1,000.
-fn is_rounds(rounds: u64) -> bool
-    ensures { result ≡ within rounds rounds_most }
+// 1, 2, 3 and 8, as the opening would refuse such a graph and rounds.
+fn test_sizes(d: u64, rounds: u64, rows: usize, entries: usize) -> Result<(), Refusal>
+    ensures { verdict_in result ≡ test_sizes d rounds rows entries }
 {
-    1 <= rounds && rounds <= SpectralParams::ROUNDS_MOST
-}
-
-// Zeros, with a refusal.
-fn no_sizes(number: u64) -> Sizes
-    ensures verdict_value { verdict_of result.verdict ≡ refused number 0 }
-    ensures lengths_value { result.lengths ≡ replicate lent_count 0 }
-{
-    let verdict = Verdict { number, place: 0 };
-    let lengths = [0; 11];
-    Sizes { verdict, lengths }
+    input::test_dims(d)?;
+    if rows < 1 {
+        return Err(Refusal::Rows);
+    }
+    if is_over(rows, entries) {
+        return Err(Refusal::Limits);
+    }
+    input::test_rounds(rounds)
 }
 
 // How long each lent list must at least be. Refusals 1, 2, 3 and 8 are those that the opening would answer for such a graph and rounds.
@@ -107,23 +98,13 @@ pub extern "C" fn threshcinch_lent_sizes(d: u64, rounds: u64, rows: usize, entri
     ensures verdict_value { verdict_of result.verdict ≡ test_sizes d rounds rows entries }
     ensures lengths_value { result.lengths ≡ sizes_by (test_sizes d rounds rows entries) d rounds rows entries }
 {
-    if !is_dims(d) {
-        return no_sizes(1);
-    }
-    if rows < 1 {
-        return no_sizes(2);
-    }
-    if is_over(rows, entries) {
-        return no_sizes(3);
-    }
-    if !is_rounds(rounds) {
-        return no_sizes(8);
+    let tested = test_sizes(d, rounds, rows, entries);
+    let verdict = Verdict::from(tested);
+    if tested.is_err() {
+        let lengths = [0; 11];
+        return Sizes { verdict, lengths };
     }
     let lengths = input::lent_sizes(d as usize, rounds as usize, rows, entries);
-    let verdict = Verdict {
-        number: 0,
-        place: 0,
-    };
     Sizes { verdict, lengths }
 }
 

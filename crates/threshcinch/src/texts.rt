@@ -1,14 +1,14 @@
 // Run files and answers as text: what the text program reads and prints, for hosts that keep such files.
 ghost use Rattle.std.specs.Prelude.{◌≡◌};
 ghost use Rattle.files.specs.RunText.{test_write, run_text};
-ghost use Rattle.input.specs.Said.{verdict_of, params_of};
+ghost use Rattle.input.specs.Said.{verdict_of, verdict_in, params_of};
 ghost use Rattle.printing.specs.Answer.{test_answer, answer_text};
 ghost use Rattle.printing.specs.Room.{Leaves};
 ghost use Rattle.reading.specs.ReadRun.{read_run, record_of};
 ghost use Rattle.state.specs.Said.{counts_in};
 ghost use Rattle.threshcinch.specs.Texts.{text_verdict, run_told};
 
-use input::{SpectralParams, Verdict};
+use input::{Refusal, SpectralParams, Verdict};
 use printing::WrittenText;
 use state::Counts;
 
@@ -28,18 +28,13 @@ pub struct RunRead {
 }
 
 // 17 at the line, or no refusal.
-fn text_verdict(is_right: bool, line: u64) -> Verdict
-    ensures { result ≡ text_verdict is_right line }
+fn test_text(is_right: bool, line: u64) -> Result<(), Refusal>
+    ensures { verdict_in result ≡ verdict_of (text_verdict is_right line) }
 {
     if is_right {
-        return Verdict {
-            number: 0,
-            place: 0,
-        };
-    }
-    Verdict {
-        number: 17,
-        place: line,
+        Ok(())
+    } else {
+        Err(Refusal::File(line))
     }
 }
 
@@ -48,7 +43,8 @@ pub extern "C" fn threshcinch_read_run(text: &[u8]) -> RunRead
     ensures { result ≡ run_told (record_of (read_run text.now)) }
 {
     let file = reading::read_run(text);
-    let verdict = text_verdict(file.is_right, file.line);
+    let tested = test_text(file.is_right, file.line);
+    let verdict = Verdict::from(tested);
     let params = SpectralParams {
         rounds: file.rounds,
         degree: file.degree,

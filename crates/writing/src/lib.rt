@@ -176,15 +176,15 @@ fn test_file(
 ) -> Verdict
     ensures { verdict_of result ≡ test_file d (params_of params) starts.now columns.now values.now }
 {
-    let dims = input::test_dims(d);
+    let dims = Verdict::from(input::test_dims(d));
     if dims.number != 0 {
         return dims;
     }
-    let graph = input::test_graph(starts, columns, values);
+    let graph = Verdict::from(input::test_graph(starts, columns, values));
     if graph.number != 0 {
         return graph;
     }
-    input::test_params(params)
+    Verdict::from(input::test_params(params))
 }
 
 fn test_run(

@@ -7,20 +7,20 @@ use Rattle.machine.specs.Closing.{closed_by}
 use Rattle.state.specs.Said.{asked_in, state_in}
 use native.Mathlib.Omega.{arith}
 use Rattle.state.proofs.Places.{same_places, places_on}
-use Rattle.spectral.proofs.Stages.{none-closed, opened-marks, to_come, chunks_ready, marks-here, closable, marks-done, closed-next, counted-down, ended, never_out}
+use Rattle.spectral.proofs.Stages.{none-closed, opened-marks, to_come, chunks_ready, marks-here, closable, marks-done, closed-next, ended, never_out}
 use Rattle.spectral.proofs.all_stages.Goals as goal
 
-pub loop-left-init : goal.loop-left-init
-loop-left-init c = (omega arith, none-closed _ _ _ _ _ _ c.requires.state_value, refl, refl, same_places _)
+pub loop-closed-init : goal.loop-closed-init
+loop-closed-init c = (none-closed _ _ _ _ _ _ c.requires.state_value, refl, refl, same_places _)
 
 pub returns-then-stage-eq20 : goal.returns-then-stage-eq20
 returns-then-stage-eq20 c =
-    let e = ended c.requires.accepted c.loop-left.invariant.1 c.if-stage-eq20.true in
-    record { result_value = e.0; memory_after = e.1.0; same_places = c.loop-left.invariant.4; marks_unchanged = e.1.1 }
+    let e = ended c.requires.accepted c.loop-closed.invariant.0 c.if-stage-eq20.true in
+    record { result_value = e.0; memory_after = e.1.0; same_places = c.loop-closed.invariant.3; marks_unchanged = e.1.1 }
 
 pub all_chunks-requires : goal.all_chunks-requires
 all_chunks-requires c =
-    let at = c.loop-left.invariant.1 in
+    let at = c.loop-closed.invariant.0 in
     let ok = c.requires.accepted in
     record { by_index = chunks_ready ok at; asked_in_bounds = marks-here ok at }
 
@@ -31,40 +31,34 @@ parts_most a = chunk_count a * wide a * wide a
 -- what closing reads is what the chunks have left
 pub close_stage-reached-requires : goal.close_stage-reached-requires
 close_stage-reached-requires c =
-    let at = c.loop-left.invariant.1 in
+    let at = c.loop-closed.invariant.0 in
     let ok = c.requires.accepted in
     let d = c.all_chunks.ensures in
     let k = closable ok at d.memory_after in
     let e = sym c.view-seen.ensures in
     record {
       state_ready = k.state;
-      rows_in_bounds = (subst (λ (m : Lent ieee64). c.loop-left.reached.asked.rows ≤ length m.v0) e k.v0, subst (λ (m : Lent ieee64). parts_most (asked_in c.loop-left.reached.asked) ≤ length m.partials) e k.partials);
+      rows_in_bounds = (subst (λ (m : Lent ieee64). c.loop-closed.reached.asked.rows ≤ length m.v0) e k.v0, subst (λ (m : Lent ieee64). parts_most (asked_in c.loop-closed.reached.asked) ≤ length m.partials) e k.partials);
       asked_in_bounds = marks-done ok at d.marks_after;
       asked_in_bounds_2 = k.ritz_record;
     }
 
-pub overflow_sub-left : goal.overflow_sub-left
-overflow_sub-left c = omega (arith, c.loop-left-test.true)
-
-pub loop-left-smaller : goal.loop-left-smaller
-loop-left-smaller c = omega (arith, c.loop-left-test.true)
-
-pub loop-left-preserved : goal.loop-left-preserved
-loop-left-preserved c =
-    let i = c.loop-left.invariant in
+pub loop-closed-preserved : goal.loop-closed-preserved
+loop-closed-preserved c =
+    let i = c.loop-closed.invariant in
     let ok = c.requires.accepted in
     let d = c.all_chunks in
     let t = c.close_stage-reached in
     let k = d.auto in (
-      omega (arith, i.0, c.loop-left-test.true),
-      counted-down _ c.loop-left-test.true i.0
-          (closed-next ok i.1 d.ensures.memory_after d.ensures.marks_after (to_come ok i.1 c.if-stage-eq20.false) (t.ensures.result_value ∙ ap (λ (m : Lent ieee64). closed_by ieee64 (stage_of c.loop-left.reached.progress.stage) (state_in c.loop-left.reached) m.v0 m.partials) c.view-seen.ensures) t.ensures.marks_after t.ensures.ritz_record_after (opened-marks _ _ _ _ c.requires.state_value c.requires.marks_value)),
-      t.auto.marks ∙ k.marks ∙ i.2,
-      t.auto.ritz_record ∙ i.3,
-      places_on i.4 d.ensures.same_places,
+      closed-next ok i.0 d.ensures.memory_after d.ensures.marks_after (to_come ok i.0 c.if-stage-eq20.false)
+          (t.ensures.result_value ∙ ap (λ (m : Lent ieee64). closed_by ieee64 (stage_of c.loop-closed.reached.progress.stage) (state_in c.loop-closed.reached) m.v0 m.partials) c.view-seen.ensures)
+          t.ensures.marks_after t.ensures.ritz_record_after (opened-marks _ _ _ _ c.requires.state_value c.requires.marks_value),
+      t.auto.marks ∙ k.marks ∙ i.1,
+      t.auto.ritz_record ∙ i.2,
+      places_on i.3 d.ensures.same_places,
     )
 
 pub returns : goal.returns
 returns c =
-    let i = c.loop-left.invariant in
-    absurd (never_out c.requires.accepted i.1 (omega (arith, i.0, c.loop-left-test.false)))
+    let i = c.loop-closed.invariant in
+    absurd (never_out c.requires.accepted i.0 (omega (arith, c.loop-closed-test.false)))

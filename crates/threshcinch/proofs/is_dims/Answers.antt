@@ -1,8 +1,0 @@
-use borrow.Author.Tests.{le-leb, lt-leb}
-use Rattle.threshcinch.proofs.is_dims.Goals as goal
-
-pub returns-then-d-ge1 : goal.returns-then-d-ge1
-returns-then-d-ge1 c = simp (le-leb _ _ c.if-d-ge1.true)
-
-pub returns-else-d-ge1 : goal.returns-else-d-ge1
-returns-else-d-ge1 c = simp (lt-leb _ _ c.if-d-ge1.false)
