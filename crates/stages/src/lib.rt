@@ -16,9 +16,9 @@ ghost use Rattle.stages.specs.Parts.{parts_in};
 use blocks::{Blocks, Chunk, Edges};
 use state::{Asked, Progress, Stage};
 
-// The work of chunk h in the state's stage. Of the state it gets the parts that some stage
-// reads, where they lie, so that no call copies a matrix. Each stage is lent the lists that it reads or writes, and no other; where no run
-// is open there is no work.
+// The work of chunk h in the state's stage. Of the state it gets the parts that some stage reads, where they lie, so that no call copies a
+// matrix. Each stage is lent the lists that it reads or writes, and no other; where no run is open there is no work.
+// The lists stay parameters, since the caller has each of them by itself, from the C interface on: a struct would hold nine `&mut`s.
 pub fn chunk_work<'a>(
     asked: Asked,
     progress: Progress,
