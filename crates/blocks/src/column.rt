@@ -1,6 +1,6 @@
 // The stages that write a column of the current block.
-// The three blocks that one of them is lent to write stay three parameters: a struct of them would hold `&mut`s, and its contract could say
-// what they become only by a clause for each borrow that ends later.
+// Where a stage writes one of the three blocks they stay three parameters, here and in pass.rt: a struct of them would hold `&mut`s, and a
+// contract could say what becomes of them only by a clause for each borrow that ends later.
 ghost use Rattle.std.specs.Prelude.{◌≡◌, List, ℕ, ◌*◌, ◌≤◌, Float, length};
 ghost use Rattle.definition.specs.Arith.{ieee64};
 ghost use Rattle.definition.specs.Memory.{vector_of, block_of, number_at};

@@ -56,7 +56,8 @@ pub fn close_degrees(state: State, v0: &[f64]) -> State
     }
 }
 
-// The norm of a column before it is projected.
+// The norm of a column before it is projected. It and the one below stay two functions: they differ in the field that they set, which no
+// parameter can name.
 pub fn close_norm_before(state: State, norm: f64) -> State
     ensures { state_in result ≡ with_progress ieee64 (with_before ieee64 7 norm (progress_in state.progress)) (state_in state) }
 {

@@ -11,10 +11,5 @@ pub extern "C" fn ritz_jacobi_eigen(k: usize, matrix: &mut [f64; 225], vectors: 
     ensures matrix_after { matrix.new ≡ (jacobi_held k matrix.old).matrix }
     ensures vectors_after { vectors.new ≡ (jacobi_held k matrix.old).vectors }
 {
-    let m = *matrix;
-    let s = ritz::jacobi_eigen(k, m);
-    let values = s.matrix;
-    let columns = s.vectors;
-    *matrix = values;
-    *vectors = columns;
+    ritz::jacobi_in_place(matrix, vectors, k);
 }

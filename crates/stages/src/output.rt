@@ -1,5 +1,6 @@
 // The chunk work of the last four stages, on the rows of one chunk of the output. Each contract says what becomes of the whole lent
 // memory, whatever the lists are that the stage leaves alone.
+// Sums and squares stay two functions, and so do centring and scaling: the body of each is one call, and its contract names its own work.
 ghost use Rattle.std.specs.Prelude.{◌≡◌, List, ℕ, ◌*◌, ◌≤◌, Float, length};
 ghost use Rattle.definition.specs.Arith.{ieee64};
 ghost use Rattle.machine.specs.State.{chunk_count, wide};
