@@ -3,140 +3,90 @@
 //
 // Standard input, for each case: a line `K RRRRR AAAAA` (the kind, and the lengths of the run file and of the answer, five digits each), the run
 // file, the answer. Kinds: `p`, promised to be equal; `b`, beyond what is promised, counted only; `w`, not run: both are written again only.
-// It ends where the input ends, or at a head that asks for more than there is.
+// It ends where the input ends, or at a head that asks for more than there is; after 4,096 cases at the latest.
 #![tactic(auto)]
 
-ghost use Rattle.std.specs.Prelude.{◌≡◌, ◌+◌, ◌≤◌, length};
+ghost use Rattle.std.specs.Prelude.{◌≡◌, length};
 
 use digits::Written;
 use std::io;
-use tally::Tally;
+use stored::Said;
+use tally::{Kind, Tally};
 
 mod again; // again.rt: run files and answers written again
-mod fronts; // fronts.rt: the first numbers of a list
-mod lent; // lent.rt: the text that a writer is lent, and what it must leave
+mod lent; // lent.rt: the memory that a writer is lent, and what it must leave
 mod refusals; // refusals.rt: what the writers must refuse
 mod stored; // stored.rt: what a stored answer says
 mod tally; // tally.rt: how many were tried, and how many were right
 
-const CASES_MOST: u64 = 4096;
+const CASES_MOST: usize = 4096;
 
-// ---- the head of a case
+// ---- the cases
 
-// The value of a digit, and 0 of any other byte.
-fn digit(b: u8) -> usize
-    ensures { result ≤ 9 }
-{
-    if b < b'0' {
-        return 0;
-    }
-    if b'9' < b {
-        return 0;
-    }
-    (b - b'0') as usize
+#[derive(Clone, Copy)]
+struct Case<'a> {
+    kind: Option<Kind>, // none where it is not run
+    run: &'a [u8],
+    answer: &'a [u8],
 }
 
-// The number of the five digits at a place.
-fn five_digits(text: &[u8], at: usize) -> usize
-    requires { at + 5 ≤ length text.now }
-    ensures { result ≤ 99999 }
-{
-    digit(text[at]) * 10000
-        + digit(text[at + 1]) * 1000
-        + digit(text[at + 2]) * 100
-        + digit(text[at + 3]) * 10
-        + digit(text[at + 4])
+fn kind_of(byte: u8) -> Option<Kind> {
+    match byte {
+        b'p' => Some(Kind::Promised),
+        b'b' => Some(Kind::Beyond),
+        _ => None,
+    }
 }
 
-// ---- comparing
-
-fn is_same(x: &[u8], y: &[u8]) -> bool {
-    if x.len() != y.len() {
-        return false;
-    }
-    for i in 0..x.len() {
-        if lent::byte_at(x, i) != lent::byte_at(y, i) {
-            return false;
-        }
-    }
-    true
+// The number of five digits. Another byte counts as 0.
+fn number_of(digits: &[u8]) -> usize {
+    digits.iter().fold(0usize, |number, b| {
+        let digit = char::from(*b).to_digit(10).unwrap_or(0);
+        number.saturating_mul(10).saturating_add(digit as usize)
+    })
 }
+
+// The cases that are left of the input.
+#[derive(Drop)]
+struct Cases<'a>(&'a [u8]);
+
+impl<'a> Iterator for Cases<'a> {
+    type Item = Case<'a>;
+
+    fn next(&mut self) -> Option<Case<'a>> {
+        let (head, rest) = self.0.split_first_chunk::<14>()?;
+        let (run, rest) = rest.split_at_checked(number_of(&head[2..7]))?;
+        let (answer, rest) = rest.split_at_checked(number_of(&head[8..13]))?;
+        self.0 = rest;
+        Some(Case {
+            kind: kind_of(head[0]),
+            run,
+            answer,
+        })
+    }
+}
+
+// ---- trying one
 
 // Whether the run file has the stored answer.
 fn is_answered(run: &[u8], stored: &[u8]) -> bool {
-    let mut out = [0u8; 8192];
-    let written = text::answer(run, &mut out);
-    match written {
-        Written::To(end) => {
-            if end <= 8192 {
-                is_same(&out[..end], stored)
-            } else {
-                false
-            }
-        }
+    let mut out = [0u8; text::ROOM];
+    match text::answer(run, &mut out) {
+        Written::To(end) => out.get(..end).is_some_and(|answer| answer == stored),
         Written::Short => false,
     }
 }
 
-// ---- the cases
-
-// The place behind a case.
-#[derive(Clone, Copy)]
-enum Case {
-    Done(usize),
-    NoMore,
+fn try_case(case: &Case, t: &mut Tally) {
+    if let Some(kind) = case.kind {
+        t.note(kind, is_answered(case.run, case.answer));
+    }
+    let said = Said::read(case.answer);
+    again::file_again(case.run, said.verdict, t);
+    again::answer_again(&said, case.answer, t);
 }
 
-// The run file is run where its kind says so.
-fn try_answer(kind: u8, run: &[u8], answer: &[u8], t: &mut Tally) {
-    if kind == b'p' {
-        tally::note(t, tally::PROMISED, is_answered(run, answer));
-    }
-    if kind == b'b' {
-        tally::note(t, tally::BEYOND, is_answered(run, answer));
-    }
-}
-
-fn try_case(kind: u8, run: &[u8], answer: &[u8], t: &mut Tally) {
-    try_answer(kind, run, answer, t);
-    let said = stored::read(answer);
-    let verdict = said.verdict;
-    again::file_again(run, verdict, t);
-    again::answer_again(said, answer, t);
-}
-
-// The case whose head begins at a place.
-fn case_at(all: &[u8], at: usize, t: &mut Tally) -> Case {
-    if all.len() <= at {
-        return Case::NoMore;
-    }
-    let left = all.len() - at;
-    if left < 14 {
-        return Case::NoMore;
-    }
-    let run_length = five_digits(all, at + 2);
-    let answer_length = five_digits(all, at + 8);
-    if left - 14 < run_length + answer_length {
-        return Case::NoMore;
-    }
-    let from = at + 14;
-    let middle = from + run_length;
-    let next = middle + answer_length;
-    try_case(all[at], &all[from..middle], &all[middle..next], t);
-    Case::Done(next)
-}
-
-fn try_cases(all: &[u8], t: &mut Tally) {
-    let mut at = 0;
-    for turns in 0..CASES_MOST {
-        let Case::Done(next) = case_at(all, at, t) else {
-            return;
-        };
-        at = next;
-    }
-}
-
-// Room for all of the input. The `ensures` gives only the length, so that no proof counts so many zeros.
+// Room for all of the input: fixed memory, as the project has no heap. The `ensures` gives only the length, so that no proof counts so many zeros.
 fn room() -> [u8; 2100000]
     ensures { 2100000 ≡ length result }
 {
@@ -146,9 +96,11 @@ fn room() -> [u8; 2100000]
 fn main(rt: HostRuntime) -> io::Result<()> {
     let mut all = room();
     let count = text::read_full(&mut rt.stdin(), &mut all);
-    let mut t = [0u64; 16];
-    try_cases(&all[..count], &mut t);
-    refusals::of_files(&mut t);
-    refusals::of_answers(&mut t);
-    tally::print_all(&rt, &t)
+    let mut tally = Tally::default();
+    for case in Cases(&all[..count]).take(CASES_MOST) {
+        try_case(&case, &mut tally);
+    }
+    refusals::of_files(&mut tally);
+    refusals::of_answers(&mut tally);
+    println!(rt; "{tally}")
 }

@@ -1,15 +1,14 @@
 // What a stored answer says. One of another form is read as something else, and so is not printed again as it was.
-use crate::lent;
+use crate::lent::ACCEPTED;
 use digits::{Decimal, Hex};
 use input::Verdict;
 use state::Counts;
 
-const LARGEST: u64 = 0xffff_ffff_ffff_ffff;
-
 // 64 rows of 7.
-pub const NUMBERS_MOST: usize = 448;
+const NUMBERS_MOST: usize = 448;
 
 // What the second writer is asked. With a refusal all else is zero; row i of the n rows has its d numbers from i x d on.
+// The numbers are the first of `room`: fixed memory, as everywhere in this project, and what a longer seed has behind them.
 #[derive(Clone, Copy)]
 pub struct Said {
     pub verdict: Verdict,
@@ -17,115 +16,121 @@ pub struct Said {
     pub n: usize,
     pub counts: Counts,
     pub numbers: usize,
-    pub seed: [f64; 448],
+    pub room: [f64; 448],
 }
 
-// A number, and the place behind it.
-#[derive(Clone, Copy)]
-struct Number {
-    value: u64,
-    next: usize,
-}
-
-// The place behind the next `=`.
-fn behind_sign(text: &[u8], from: usize) -> usize {
-    let mut i = from;
-    while i < text.len() {
-        if text[i] == b'=' {
-            return i + 1;
+impl Said {
+    // A refusal, and all else zero.
+    pub fn refused(verdict: Verdict) -> Self {
+        Said {
+            verdict,
+            d: 0,
+            n: 0,
+            counts: Counts {
+                passes: 0,
+                refreshed: 0,
+                zeroed: 0,
+                isolated: 0,
+            },
+            numbers: 0,
+            room: [0.0; 448],
         }
-        i += 1;
     }
-    i
-}
 
-// The decimal behind the next `=`.
-fn labelled(text: &[u8], from: usize) -> Number {
-    let number = digits::read_decimal(text, behind_sign(text, from), LARGEST);
-    match number {
-        Decimal::Number { value, next } => Number { value, next },
-        Decimal::Wrong => Number {
-            value: 0,
-            next: from,
-        },
-    }
-}
-
-// The number behind a comma, or behind the newline and the name of a row.
-fn next_bits(text: &[u8], at: usize) -> Hex {
-    if lent::byte_at(text, at) == b',' {
-        return digits::read_hex(text, std::num::wrapping_add_usize(at, 1));
-    }
-    digits::read_hex(text, std::num::wrapping_add_usize(at, 5))
-}
-
-// The numbers of all rows, behind the newline at `from`; how many they are.
-fn read_seed(text: &[u8], from: usize, seed: &mut [f64]) -> usize {
-    let mut at = from;
-    let mut count = 0;
-    while count < seed.len() {
-        let Hex::Bits { value, next } = next_bits(text, at) else {
-            return count;
+    // What a stored answer says. A number that it lacks is 0.
+    pub fn read(text: &[u8]) -> Self {
+        let mut left = Left(text);
+        let number = left.labelled();
+        let second = left.labelled(); // the place of a refusal, or n
+        if number != 0 {
+            return Said::refused(Verdict {
+                number,
+                place: second,
+            });
+        }
+        let n = second as usize;
+        let counts = Counts {
+            passes: left.labelled() as usize,
+            refreshed: left.labelled() as usize,
+            zeroed: left.labelled() as usize,
+            isolated: left.labelled() as usize,
         };
-        seed[count] = reading::value_of(value);
-        at = next;
-        count += 1;
+        let mut room = [0.0; 448];
+        let numbers = left.read_seed(&mut room);
+        Said {
+            verdict: ACCEPTED,
+            d: numbers.checked_div(n).unwrap_or(0) as u64,
+            n,
+            counts,
+            numbers,
+            room,
+        }
     }
-    count
-}
 
-fn row_length(numbers: usize, n: usize) -> u64 {
-    if n == 0 { 0 } else { (numbers / n) as u64 }
-}
+    pub fn seed(&self) -> &[f64] {
+        self.room.get(..self.numbers).unwrap_or(&self.room)
+    }
 
-pub fn refusal(number: u64, place: u64) -> Said {
-    let verdict = lent::verdict(number, place);
-    let counts = Counts {
-        passes: 0,
-        refreshed: 0,
-        zeroed: 0,
-        isolated: 0,
-    };
-    Said {
-        verdict,
-        d: 0,
-        n: 0,
-        counts,
-        numbers: 0,
-        seed: [0.0; 448],
+    // The same with a seed that has numbers behind its own.
+    pub fn longer(self) -> Self {
+        Said {
+            numbers: NUMBERS_MOST,
+            ..self
+        }
     }
 }
 
-// The counts and the rows, behind n.
-fn with_seed(text: &[u8], n: usize, from: usize) -> Said {
-    let passes = labelled(text, from);
-    let refreshed = labelled(text, passes.next);
-    let zeroed = labelled(text, refreshed.next);
-    let isolated = labelled(text, zeroed.next);
-    let counts = Counts {
-        passes: passes.value as usize,
-        refreshed: refreshed.value as usize,
-        zeroed: zeroed.value as usize,
-        isolated: isolated.value as usize,
-    };
-    let mut seed = [0.0; 448];
-    let numbers = read_seed(text, isolated.next, &mut seed);
-    let verdict = lent::verdict(0, 0);
-    Said {
-        verdict,
-        d: row_length(numbers, n),
-        n,
-        counts,
-        numbers,
-        seed,
+// ---- reading
+
+// The decimal that stands at a place, and the place behind it.
+fn decimal_at(text: &[u8], at: usize) -> Option<(u64, usize)> {
+    match digits::read_decimal(text, at, u64::MAX) {
+        Decimal::Number { value, next } => Some((value, next)),
+        Decimal::Wrong => None,
     }
 }
 
-pub fn read(text: &[u8]) -> Said {
-    let answer = labelled(text, 0);
-    let second = labelled(text, answer.next); // the place of a refusal, or n
-    if answer.value != 0 {
-        return refusal(answer.value, second.value);
+// The pattern that stands at a place, and the place behind it.
+fn bits_at(text: &[u8], at: usize) -> Option<(u64, usize)> {
+    match digits::read_hex(text, at) {
+        Hex::Bits { value, next } => Some((value, next)),
+        Hex::Wrong => None,
     }
-    with_seed(text, second.value as usize, second.next)
+}
+
+// What is left to read of a stored answer.
+#[derive(Drop)]
+struct Left<'a>(&'a [u8]);
+
+impl Left<'_> {
+    // The decimal behind the next `=`; none, and nothing is read, where there is no such.
+    fn next_decimal(&mut self) -> Option<u64> {
+        let sign = self.0.iter().position(|b| *b == b'=')?;
+        let (value, next) = decimal_at(self.0, sign + 1)?;
+        self.0 = self.0.get(next..)?;
+        Some(value)
+    }
+
+    fn labelled(&mut self) -> u64 {
+        self.next_decimal().unwrap_or(0)
+    }
+
+    // The pattern behind a comma, or behind the newline and the name of a row.
+    fn next_bits(&mut self) -> Option<u64> {
+        let from = if self.0.first() == Some(&b',') { 1 } else { 5 };
+        let (value, next) = bits_at(self.0, from)?;
+        self.0 = self.0.get(next..)?;
+        Some(value)
+    }
+
+    // The numbers of all rows; how many they are.
+    fn read_seed(&mut self, seed: &mut [f64]) -> usize {
+        for i in 0..seed.len() {
+            let Some(bits) = self.next_bits() else {
+                return i;
+            };
+            seed[i] = reading::value_of(bits);
+        }
+        seed.len()
+    }
 }

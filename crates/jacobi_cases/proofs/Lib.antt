@@ -1,2 +1,0 @@
--- Which patterns and which floats are no NaN's.
-mod Patterns
