@@ -8,6 +8,3 @@ use Rattle.columns.proofs.zero_rows.Given as goal
 
 abbrev pub invariant-loop-r : goal.invariant-loop-r
 invariant-loop-r l = Turn l.rows l.k (with_column ieee64 (block_of nan l.rows l.k l.initial.part) l.c (λ i. ieee64.zero)) l.initial.part l.r l.part
-
-abbrev pub decreases-loop-r : goal.decreases-loop-r
-decreases-loop-r l = l.rows - l.r

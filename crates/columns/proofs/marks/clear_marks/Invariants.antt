@@ -6,6 +6,3 @@ use Rattle.columns.proofs.marks.clear_marks.Given as goal
 
 abbrev pub invariant-loop-h : goal.invariant-loop-h
 invariant-loop-h l = (l.h ≤ l.c) × (length l.marks ≡ length l.initial.marks) × (l.marks ≡ fill_range 0 l.h (λ i. 0) l.initial.marks)
-
-abbrev pub decreases-loop-h : goal.decreases-loop-h
-decreases-loop-h l = l.c - l.h

@@ -6,6 +6,3 @@ use Rattle.columns.proofs.marks.first_undone.Given as goal
 
 abbrev pub invariant-loop-h : goal.invariant-loop-h
 invariant-loop-h l = (l.h ≤ l.c) × (first_from (undone l.marks) 0 l.c ≡ first_from (undone l.marks) l.h (l.c - l.h))
-
-abbrev pub decreases-loop-h : goal.decreases-loop-h
-decreases-loop-h l = l.c - l.h

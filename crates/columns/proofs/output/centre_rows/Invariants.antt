@@ -7,6 +7,3 @@ use Rattle.columns.proofs.output.centre_rows.Given as goal
 
 abbrev pub invariant-loop-r : goal.invariant-loop-r
 invariant-loop-r l = Turn l.rows l.d (λ i j. ieee64.sub (block_of nan l.rows l.d l.initial.part i j) (vector_of nan l.means j)) l.initial.part l.r l.part
-
-abbrev pub decreases-loop-r : goal.decreases-loop-r
-decreases-loop-r l = l.rows - l.r

@@ -7,6 +7,3 @@ use Rattle.columns.proofs.output.scale_row.Given as goal
 
 abbrev pub invariant-loop-j : goal.invariant-loop-j
 invariant-loop-j l = Cells l.at l.d (λ p. ieee64.mul (vector_of nan l.initial.part p) (vector_of nan l.scales (p - l.at))) l.initial.part l.j l.part
-
-abbrev pub decreases-loop-j : goal.decreases-loop-j
-decreases-loop-j l = l.d - l.j

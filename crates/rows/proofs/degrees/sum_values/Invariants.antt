@@ -8,6 +8,3 @@ use Rattle.rows.proofs.degrees.sum_values.Given as goal
 
 abbrev pub invariant-loop-i : goal.invariant-loop-i
 invariant-loop-i l = (l.a ≤ l.i) × (l.i ≤ l.e) × (l.sum ≡ sum_up ieee64 (vector_of ieee64.none l.values) l.a l.i)
-
-abbrev pub decreases-loop-i : goal.decreases-loop-i
-decreases-loop-i l = l.e - l.i

@@ -9,6 +9,3 @@ use Rattle.rows.proofs.degrees.v0_rows.Given as goal
 
 abbrev pub invariant-loop-i : goal.invariant-loop-i
 invariant-loop-i l = (l.i ≤ length l.initial.v0) × (length l.v0 ≡ length l.initial.v0) × (l.v0 ≡ fill_range 0 l.i (λ j. v0_of ieee64 l.norm (vector_of ieee64.none l.initial.v0 j)) l.initial.v0)
-
-abbrev pub decreases-loop-i : goal.decreases-loop-i
-decreases-loop-i l = length l.initial.v0 - l.i

@@ -12,6 +12,3 @@ abbrev pub invariant-loop-r : goal.invariant-loop-r
 invariant-loop-r l =
     (l.r ≤ l.rows) × (length l.out ≡ length l.initial.out) × (l.out ≡ fill_range 0 (l.r * l.k)
     (λ p. combined_at ieee64 l.n l.k (operator_of ieee64 l.starts l.columns l.weights l.inverse) (multipliers_of l.by) l.v l.prev (place l.n l.k l.first 0 + p)) l.initial.out)
-
-abbrev pub decreases-loop-r : goal.decreases-loop-r
-decreases-loop-r l = l.rows - l.r

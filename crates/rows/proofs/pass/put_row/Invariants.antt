@@ -8,6 +8,3 @@ use Rattle.rows.proofs.pass.put_row.Given as goal
 
 abbrev pub invariant-loop-c : goal.invariant-loop-c
 invariant-loop-c l = (l.c ≤ l.k) × (length l.out ≡ length l.initial.out) × (l.out ≡ fill_range l.to (l.to + l.c) (λ p. vector_of ieee64.none l.row (p - l.to)) l.initial.out)
-
-abbrev pub decreases-loop-c : goal.decreases-loop-c
-decreases-loop-c l = l.k - l.c

@@ -8,6 +8,3 @@ use Rattle.sums.proofs.put.put_part.Given as goal
 
 abbrev pub invariant-loop-q : goal.invariant-loop-q
 invariant-loop-q l = (l.q ≤ length l.initial.part) × (length l.part ≡ length l.initial.part) × (l.part ≡ fill_range 0 l.q (vector_of nan l.sums) l.initial.part)
-
-abbrev pub decreases-loop-q : goal.decreases-loop-q
-decreases-loop-q l = length l.initial.part - l.q

@@ -10,6 +10,3 @@ use Rattle.sums.proofs.row.add_squares.Given as goal
 
 abbrev pub invariant-loop-q : goal.invariant-loop-q
 invariant-loop-q l = (l.q ≤ l.width) × (l.acc ≡ raised ieee64 0 l.q (λ j. square ieee64 (get_or l.list (l.from + j) nan)) l.initial.acc)
-
-abbrev pub decreases-loop-q : goal.decreases-loop-q
-decreases-loop-q l = l.width - l.q

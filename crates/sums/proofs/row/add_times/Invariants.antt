@@ -9,6 +9,3 @@ use Rattle.sums.proofs.row.add_times.Given as goal
 
 abbrev pub invariant-loop-q : goal.invariant-loop-q
 invariant-loop-q l = (l.q ≤ l.width) × (l.acc ≡ raised ieee64 l.at (l.at + l.q) (λ j. ieee64.mul l.x (get_or l.list (l.from + (j - l.at)) nan)) l.initial.acc)
-
-abbrev pub decreases-loop-q : goal.decreases-loop-q
-decreases-loop-q l = l.width - l.q

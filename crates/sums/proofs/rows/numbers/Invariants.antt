@@ -9,6 +9,3 @@ use Rattle.sums.proofs.rows.numbers.Given as goal
 
 abbrev pub invariant-loop-i : goal.invariant-loop-i
 invariant-loop-i l = (l.first ≤ l.i) × (l.i ≤ l.end) × (l.acc ≡ summed ieee64 l.width (λ q j. get_or l.list (j * l.stride + q) nan) l.first l.i)
-
-abbrev pub decreases-loop-i : goal.decreases-loop-i
-decreases-loop-i l = l.end - l.i

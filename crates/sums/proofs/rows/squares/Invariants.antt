@@ -10,6 +10,3 @@ use Rattle.sums.proofs.rows.squares.Given as goal
 
 abbrev pub invariant-loop-i : goal.invariant-loop-i
 invariant-loop-i l = (l.first ≤ l.i) × (l.i ≤ l.end) × (l.acc ≡ summed ieee64 l.width (λ q j. square ieee64 (get_or l.list (j * l.stride + q) nan)) l.first l.i)
-
-abbrev pub decreases-loop-i : goal.decreases-loop-i
-decreases-loop-i l = l.end - l.i
