@@ -4,7 +4,7 @@
 // says, since where a block keeps a number may hang on it.
 #![tactic(auto)]
 
-ghost use Rattle.std.specs.Prelude.{◌≡◌, ℕ, ◌+◌, ◌≤◌, ◌<◌, length};
+ghost use Rattle.std.specs.Prelude.{◌≡◌, ℕ, Float, ◌+◌, ◌≤◌, ◌<◌, length};
 ghost use Rattle.std.specs.Float.{nan};
 ghost use Rattle.definition.specs.Arith.{ieee64};
 ghost use Rattle.definition.specs.Memory.{place, vector_of, block_of, number_at, fill_range};
@@ -72,6 +72,25 @@ pub fn subtract_chunk(
     subtract_rows(k, c, dots, first, end - first, v0, &mut block[a..e]);
 }
 
+// Column c of each row made what `number` gives for the row and what stood there.
+fn write_rows<F: Fn(usize, f64) -> f64>(
+    k: usize,
+    c: usize,
+    rows: usize,
+    part: &mut [f64],
+    number: F,
+)
+    requires part { Part k c rows part.old }
+    requires callable { (r : ℕ) (x : Float) → r < rows → F.pre number r x }
+    ensures { (f : ℕ → Float) → ((r : ℕ) (y : Float) → r < rows → F.post number r (block_of nan rows k part.old r c) y → y ≡ f r)
+        → part.new ≡ fill_range 0 (place rows k rows 0) (number_at rows k (with_column ieee64 (block_of nan rows k part.old) c f)) part.old }
+{
+    for r in 0..rows {
+        let at = r * k + c;
+        part[at] = number(r, part[at]);
+    }
+}
+
 // Column c divided by its norm: it is kept.
 pub fn divide_rows(k: usize, c: usize, norm: f64, rows: usize, part: &mut [f64])
     requires { Part k c rows part.old }
@@ -79,10 +98,7 @@ pub fn divide_rows(k: usize, c: usize, norm: f64, rows: usize, part: &mut [f64])
         (number_at rows k (with_column ieee64 (block_of nan rows k part.old) c (λ r. ieee64.div (block_of nan rows k part.old r c) norm)))
         part.old }
 {
-    for r in 0..rows {
-        let at = r * k + c;
-        part[at] = part[at] / norm;
-    }
+    write_rows(k, c, rows, part, |_, x| x / norm);
 }
 
 // The same in a chunk of the block. The end of the write is the same in every round.
@@ -105,14 +121,14 @@ pub fn divide_chunk(
     divide_rows(k, c, norm, end - first, &mut block[a..e]);
 }
 
-// The index of the fresh number for row i of column c.
-fn fresh_index(n: usize, k: usize, round: usize, c: usize, i: usize) -> u64
+// The fresh number for row i of column c, by its index.
+fn fresh_number(n: usize, k: usize, round: usize, c: usize, i: usize) -> f64
     requires fresh { Fresh n k round }
     requires c_lt_k { (c < k) × (i < n) }
-    ensures { result ≡ fresh_index n k round c i }
+    ensures { result ≡ ieee64.start (fresh_index n k round c i) }
 {
     let index = (round + 1) * n * k + c * n + i;
-    index as u64
+    numbers::splitmix_unit(index as u64)
 }
 
 // Column c refreshed, in the rows from `first` on.
@@ -132,11 +148,7 @@ pub fn refresh_rows(
         (number_at rows k (with_column ieee64 (block_of nan rows k part.old) c (λ r. ieee64.start (fresh_index n k round c (first + r)))))
         part.old }
 {
-    for r in 0..rows {
-        let at = r * k + c;
-        let index = fresh_index(n, k, round, c, first + r);
-        part[at] = numbers::splitmix_unit(index);
-    }
+    write_rows(k, c, rows, part, |r, _| fresh_number(n, k, round, c, first + r));
 }
 
 // The same in a chunk of the block.
@@ -167,10 +179,7 @@ pub fn zero_rows(k: usize, c: usize, rows: usize, part: &mut [f64])
         (number_at rows k (with_column ieee64 (block_of nan rows k part.old) c (λ r. ieee64.zero)))
         part.old }
 {
-    for r in 0..rows {
-        let at = r * k + c;
-        part[at] = 0.0;
-    }
+    write_rows(k, c, rows, part, |_, _| 0.0);
 }
 
 // The same in a chunk of the block, in every round.

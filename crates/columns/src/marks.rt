@@ -17,9 +17,7 @@ pub fn clear_marks(marks: &mut [u8], c: usize)
     requires { c ≤ length marks.old }
     ensures { marks.new ≡ fill_range 0 c (λ h. 0) marks.old }
 {
-    for h in 0..c {
-        marks[h] = 0;
-    }
+    marks[..c].fill(0);
 }
 
 // The lowest of c chunks that is not done, or c.
@@ -27,12 +25,7 @@ pub fn first_undone(marks: &[u8], c: usize) -> usize
     requires { c ≤ length marks.now }
     ensures { result ≡ first_from (undone marks.now) 0 c }
 {
-    for h in 0..c {
-        if marks[h] == 0 {
-            return h;
-        }
-    }
-    c
+    marks[..c].iter().position(|mark| *mark == 0).unwrap_or(c)
 }
 
 // Whether each of the first c marks is 0 or 1.
@@ -40,10 +33,5 @@ pub fn marks_sound(marks: &[u8], c: usize) -> bool
     requires { c ≤ length marks.now }
     ensures { result ≡ sound marks.now c }
 {
-    for h in 0..c {
-        if 1 < marks[h] {
-            return false;
-        }
-    }
-    true
+    marks[..c].iter().all(|mark| *mark <= 1)
 }

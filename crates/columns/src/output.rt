@@ -1,6 +1,6 @@
 // The five last stages' work on the output: rotate and unscale, subtract the means, scale; and a
 // column's scale. A row function gets the chunk's rows as a part that begins at its first row.
-ghost use Rattle.std.specs.Prelude.{◌≡◌, ◌+◌, ◌-◌, ◌*◌, ◌≤◌, ◌<◌, length, replicate};
+ghost use Rattle.std.specs.Prelude.{◌≡◌, Float, ◌+◌, ◌-◌, ◌*◌, ◌≤◌, ◌<◌, length, replicate};
 ghost use Rattle.std.specs.Float.{nan};
 ghost use Rattle.definition.specs.Arith.{ieee64};
 ghost use Rattle.definition.specs.Memory.{place, vector_of, block_of, number_at, fill_range};
@@ -124,29 +124,51 @@ fn column_means(n: usize, d: usize, sums: &[f64; 225]) -> [f64; 7]
     means
 }
 
-// The means subtracted from one row, at `at`.
-fn centre_row(d: usize, means: &[f64; 7], at: usize, part: &mut [f64])
-    requires { (d ≤ dims_most) × (at + d ≤ length part.old) }
-    ensures { part.new ≡ fill_range at (at + d)
-        (λ p. ieee64.sub (vector_of nan part.old p) (vector_of nan means.now (p - at)))
-        part.old }
+// Each number of one row, at `at`, made what `change` gives for it and its column's number of `by`.
+fn change_row<F: Fn(f64, f64) -> f64>(
+    d: usize,
+    by: &[f64],
+    at: usize,
+    part: &mut [f64],
+    change: &F,
+)
+    requires sizes { (d ≤ length by.now) × (at + d ≤ length part.old) }
+    requires callable { F.IsAlwaysCallable change.now }
+    ensures { (f : Float → Float → Float) → ((x y z : Float) → F.post change.now x y z → z ≡ f x y)
+        → part.new ≡ fill_range at (at + d) (λ p. f (vector_of nan part.old p) (vector_of nan by.now (p - at))) part.old }
 {
     for j in 0..d {
         let p = at + j;
-        part[p] = part[p] - means[j];
+        part[p] = change(part[p], by[j]);
     }
 }
 
 // The same in each row of a part.
+fn change_rows<F: Fn(f64, f64) -> f64>(
+    d: usize,
+    by: &[f64],
+    rows: usize,
+    part: &mut [f64],
+    change: F,
+)
+    requires sizes { (d ≤ length by.now) × (rows * d ≤ length part.old) }
+    requires callable { F.IsAlwaysCallable change }
+    ensures { (f : Float → Float → Float) → ((x y z : Float) → F.post change x y z → z ≡ f x y)
+        → part.new ≡ fill_range 0 (place rows d rows 0) (number_at rows d (λ r j. f (block_of nan rows d part.old r j) (vector_of nan by.now j))) part.old }
+{
+    for r in 0..rows {
+        change_row(d, by, r * d, part, &change);
+    }
+}
+
+// The means subtracted in each row of a part.
 pub fn centre_rows(d: usize, means: &[f64; 7], rows: usize, part: &mut [f64])
     requires { (d ≤ dims_most) × (rows * d ≤ length part.old) }
     ensures { part.new ≡ fill_range 0 (place rows d rows 0)
         (number_at rows d (λ r j. ieee64.sub (block_of nan rows d part.old r j) (vector_of nan means.now j)))
         part.old }
 {
-    for r in 0..rows {
-        centre_row(d, means, r * d, part);
-    }
+    change_rows(d, means, rows, part, |x, mean| x - mean);
 }
 
 // The means of the columns whose sums these are, subtracted in a chunk of the output.
@@ -170,29 +192,14 @@ pub fn centre_chunk(
     centre_rows(d, &means, end - first, &mut output[a..e]);
 }
 
-// One row, at `at`, times the columns' scales.
-fn scale_row(d: usize, scales: &[f64; 225], at: usize, part: &mut [f64])
-    requires { (d ≤ dims_most) × (at + d ≤ length part.old) }
-    ensures { part.new ≡ fill_range at (at + d)
-        (λ p. ieee64.mul (vector_of nan part.old p) (vector_of nan scales.now (p - at)))
-        part.old }
-{
-    for j in 0..d {
-        let p = at + j;
-        part[p] = part[p] * scales[j];
-    }
-}
-
-// The same in each row of a part.
+// Each row of a part times the columns' scales.
 pub fn scale_rows(d: usize, scales: &[f64; 225], rows: usize, part: &mut [f64])
     requires { (d ≤ dims_most) × (rows * d ≤ length part.old) }
     ensures { part.new ≡ fill_range 0 (place rows d rows 0)
         (number_at rows d (scaled ieee64 (vector_of nan scales.now) (block_of nan rows d part.old)))
         part.old }
 {
-    for r in 0..rows {
-        scale_row(d, scales, r * d, part);
-    }
+    change_rows(d, scales, rows, part, |x, scale| x * scale);
 }
 
 // The same in a chunk of the output.

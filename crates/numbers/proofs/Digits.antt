@@ -22,9 +22,6 @@ sq_even q = omega (arith, mul-mul-mul_comm q 2 q 2)
 sq_odd : (q : ℕ) → (q * 2 + 1) * (q * 2 + 1) ≡ 4 * (q * q) + 4 * q + 1
 sq_odd q = omega (arith, mul-add (q * 2 + 1) (q * 2) 1, add-mul (q * 2) 1 (q * 2), sq_even q)
 
-sq_plain : (q : ℕ) → (q * 2 + 0) * (q * 2 + 0) ≡ 4 * (q * q)
-sq_plain q = ap (λ (x : ℕ). x * x) (add-zero (q * 2)) ∙ sq_even q
-
 four_times : (a i : ℕ) → a * 2 ^ (2 * (i + 1)) ≡ 4 * (a * 2 ^ (2 * i))
 four_times a i = ap (λ (j : ℕ). a * 2 ^ (2 * j)) (add-one i) ∙ ap (λ (j : ℕ). a * j) (four_pow i) ∙ omega (arith, mul_assoc a 4 (2 ^ (2 * i)), mul_right_comm a 4 (2 ^ (2 * i)))
 
@@ -46,11 +43,11 @@ module _ (a b q r i : ℕ) (h : Turn a b q r i) (l : i < 7) where
   }
 
   pub turn_even : r * 4 + b / 0x10_0000_0000_0000 < q * 4 + 1
-      → Turn a (b % 0x10_0000_0000_0000 * 4) (q * 2 + 0) (r * 4 + b / 0x10_0000_0000_0000 - 0) (i + 1)
+      → Turn a (b % 0x10_0000_0000_0000 * 4) (q * 2) (r * 4 + b / 0x10_0000_0000_0000) (i + 1)
   turn_even g = record {
     turns = omega arith;
     coming = omega arith;
-    brought = omega (arith, sq_plain q, four_times a i, h.brought, h.coming);
+    brought = omega (arith, sq_even q, four_times a i, h.brought, h.coming);
     rest = omega (arith, h.rest, h.coming);
     few = omega (arith, twice_pow i, h.few);
   }
@@ -126,26 +123,17 @@ module _ (s r b y : ℕ) (h : Lengthens s r b y) where
         whole = omega arith;
       }
 
-  -- the root lowered by `less` and what is left raised by `more`
-  pub record Ended (less more : ℕ) : Type 0 where
-    pub lowered : less ≤ raw
-    pub narrow : left + more < 2 ^ 64
-    pub enough : quotient * quotient ≤ left + more
-    pub root : Floored ((s * s + r) * (b * b) + y) (raw - less) (left + more - quotient * quotient)
+  pub exact : quotient * quotient ≤ left → Floored ((s * s + r) * (b * b) + y) raw (left - quotient * quotient)
+  exact g = let d = divided in let w = d.whole in record { whole = omega arith; rest = omega (arith, d.left_most) }
 
-  pub exact : quotient * quotient ≤ left → Ended 0 0
-  exact g =
-      let d = divided in
-      let w = d.whole in
-      let e : raw - 0 ≡ raw = omega arith in
-      record {
-        lowered = omega arith;
-        narrow = omega arith;
-        enough = omega arith;
-        root = record { whole = ap (λ (q : ℕ). q * q + (left + 0 - quotient * quotient)) e ∙ omega arith; rest = omega (arith, d.left_most) };
-      }
+  -- the root lowered by one, and what is left raised by as much as its square falls
+  pub record Ended : Type 0 where
+    pub lowered : 1 ≤ raw
+    pub narrow : left + (raw * 2 - 1) < 2 ^ 64
+    pub enough : quotient * quotient ≤ left + (raw * 2 - 1)
+    pub root : Floored ((s * s + r) * (b * b) + y) (raw - 1) (left + (raw * 2 - 1) - quotient * quotient)
 
-  pub corrected : left < quotient * quotient → Ended 1 (raw * 2 - 1)
+  pub corrected : left < quotient * quotient → Ended
   corrected g =
       let d = divided in
       let w = d.whole in

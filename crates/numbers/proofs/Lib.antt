@@ -3,4 +3,3 @@ pub mod Digits
 pub mod Nearness
 pub mod Once
 pub mod Values
-pub mod Wrap

@@ -156,15 +156,11 @@ module _ (bits s e a q r n : ℕ) (p : Split bits s e) (d : Radicand s e a) (o :
 
 -- ---- the cases of `root`
 
-pub no_nan : (x : Float) → ne x x ≡ false → T (not (is_nan x))
-unfolding is_nan
-no_nan nan h = absurd (false≢true (sym h ∙ nan_differs))
-no_nan (inf s) h = tt
-no_nan (fin s m e) h = tt
-
-pub nan-root : (x : Float) → ne x x ≡ true → x ≡ root_of binary64 x
-unfolding root_of
-nan-root x h = let e : x ≡ nan = differs_from_itself x (subst T (sym h) tt) in subst (λ (y : Float). y ≡ root_of binary64 y) (sym e) refl
+pub nan-root : (x : Float) → is_nan x ≡ true → x ≡ root_of binary64 x
+unfolding root_of is_nan
+nan-root nan h = refl
+nan-root (inf s) h = absurd (false≢true h)
+nan-root (fin s m e) h = absurd (false≢true h)
 
 module _ (x : Float) (f : T (fits binary64 x)) where
   back : of_bits binary64 (to_bits binary64 x) ≡ x

@@ -19,47 +19,33 @@ ghost use Rattle.numbers.specs.Answers.{multipliers_of, ending_of, raised, lower
 pub fn root(x: f64) -> f64
     ensures { result ≡ root_of binary64 x }
 {
-    if x != x {
+    if x.is_nan() {
         return x;
     }
-    let bits = f64::to_bits(x);
-    if bits == 0x7ff0_0000_0000_0000 {
-        return x;
-    }
-    if bits == 0 {
-        return x;
-    }
-    if bits == 0x8000_0000_0000_0000 {
+    let bits = x.to_bits();
+    if bits == 0 || bits == 0x7ff0_0000_0000_0000 || bits == 0x8000_0000_0000_0000 {
         return x;
     }
     if bits > 0x8000_0000_0000_0000 {
-        return 0.0 / 0.0;
+        return f64::NAN;
     }
     f64::from_bits(pattern::root_bits(bits))
 }
 
 // ---- the start hash
 
-// a * b, modulo 2^64, by halves of 32 bits.
+// a * b, modulo 2^64.
 pub fn wrapping_mul(a: u64, b: u64) -> u64
     ensures { result ≡ wrap_mul a b }
 {
-    let a0 = a % 0x1_0000_0000;
-    let a1 = a >> 32;
-    let b0 = b % 0x1_0000_0000;
-    let b1 = b >> 32;
-    let t = a1 * b0;
-    let s = a0 * b1;
-    let w = a0 * b0;
-    let mid = t % 0x1_0000_0000 + s % 0x1_0000_0000;
-    std::num::wrapping_add_u64(mid << 32, w)
+    a.wrapping_mul(b)
 }
 
 // The number of the start block at an index: splitmix64, and of its upper 53 bits w / 2^53 - 0.5.
 pub fn splitmix_unit(index: u64) -> f64
     ensures { result ≡ splitmix_unit index }
 {
-    let z0 = std::num::wrapping_add_u64(index, 0x9e37_79b9_7f4a_7c15);
+    let z0 = index.wrapping_add(0x9e37_79b9_7f4a_7c15);
     let z1 = wrapping_mul(z0 ^ (z0 >> 30), 0xbf58_476d_1ce4_e5b9);
     let z2 = wrapping_mul(z1 ^ (z1 >> 27), 0x94d0_49bb_1331_11eb);
     let z3 = z2 ^ (z2 >> 31);
@@ -130,7 +116,7 @@ pub fn next_alpha(bound: f64, alpha: f64) -> f64
 }
 
 // What a pass multiplies its three numbers of a row by.
-#[derive(Clone, Copy)]
+#[derive(Clone, Copy, Debug, PartialEq)]
 pub struct Multipliers {
     pub of_mv: f64,
     pub of_v: f64,
@@ -173,7 +159,7 @@ pub fn plain_multipliers() -> Multipliers
 // ---- the collapse test
 
 // How an attempt at a column ends: kept with its norm, refreshed, or zeroed.
-#[derive(Clone, Copy)]
+#[derive(Clone, Copy, Debug, PartialEq)]
 pub enum Ending {
     Kept(f64),
     Refreshed,
@@ -186,9 +172,8 @@ pub fn collapse_test(before: f64, norm: f64, already: bool) -> Ending
     ensures { ending_of result ≡ ending ieee64 before norm already }
 {
     if before * 1.4901161193847656e-8 < norm {
-        return Ending::Kept(norm);
-    }
-    if already {
+        Ending::Kept(norm)
+    } else if already {
         Ending::Zeroed
     } else {
         Ending::Refreshed

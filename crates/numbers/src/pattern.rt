@@ -17,7 +17,7 @@ fn shifted_up(t: u64) -> Scaled
     ensures normal { Normal result.sig result.exp }
     ensures exp_value { result.sig * 2 ^ result.exp ≡ t * 2 ^ 1074 }
 {
-    let zeros = u64::leading_zeros(t);
+    let zeros = t.leading_zeros();
     let shift = zeros - 11;
     let wide = shift as u64;
     Scaled {
@@ -56,9 +56,7 @@ pub fn root_bits(bits: u64) -> u64
     requires { (0 < bits) × (bits < 0x7ff0_0000_0000_0000) }
     ensures { Patterned bits result }
 {
-    let p = parts(bits);
-    let sig = p.sig;
-    let exp = p.exp;
+    let Scaled { sig, exp } = parts(bits);
     let a = radicand(sig, exp);
     let d = digits(a);
     let n = nearest(d.root, d.rest);

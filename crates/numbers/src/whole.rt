@@ -22,14 +22,7 @@ fn first_digits(a: u64) -> Whole
         let t = r * 4 + bits / 0x10_0000_0000_0000;
         let s = q * 4 + 1;
         bits = bits % 0x10_0000_0000_0000 * 4;
-        let mut less: u64 = 0;
-        let mut digit: u64 = 0;
-        if s <= t {
-            less = s;
-            digit = 1;
-        }
-        r = t - less;
-        q = q * 2 + digit;
+        (q, r) = if s <= t { (q * 2 + 1, t - s) } else { (q * 2, t) };
     }
     Whole { root: q, rest: r }
 }
@@ -46,15 +39,17 @@ fn more_digits(s: u64, r: u64, base: u64, low: u64) -> Whole
     let left = n % twice * base + low % base;
     let square = t * t;
     let q = s * base + t;
-    let mut less: u64 = 0;
-    let mut more: u64 = 0;
     if left < square {
-        less = 1;
-        more = q * 2 - 1;
+        Whole {
+            root: q - 1,
+            rest: left + (q * 2 - 1) - square,
+        }
+    } else {
+        Whole {
+            root: q,
+            rest: left - square,
+        }
     }
-    let root = q - less;
-    let rest = left + more - square;
-    Whole { root, rest }
 }
 
 // The 53 digits of the root of a * 2^52: 7 of them, then 14, 27 and all.

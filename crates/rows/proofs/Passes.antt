@@ -3,12 +3,13 @@ use mathlib.Core.Path.{◌≡◌, refl, sym, ap, ◌∙◌}
 use mathlib.Core.List.{List}
 use Prim.Native.Nat.{ℕ, zero, suc, ◌+◌, ◌-◌, ◌*◌, ◌≤◌, ◌<◌}
 use native.Mathlib.Omega.{arith}
+use lib.Seq.{ext_get_or}
 use lib.ListN.{length, get_or, replicate, length-replicate, take, drop}
 use Rattle.definition.specs.Arith.{Arith}
 use Rattle.definition.specs.ChunkedColumnReduce.{Block, add_up, sum_up}
 use Rattle.definition.specs.MatvecCombine.{Multipliers, mixed_with, shifted, matvec_combine, gather}
 use Rattle.definition.specs.Memory.{place, block_of, number_at, vector_of, wholes_of, fill_range}
-use Rattle.definition.proofs.Fill.{fill_in}
+use Rattle.definition.proofs.Fill.{fill_length, fill_in}
 use Rattle.definition.proofs.Parts.{part_length, part_at}
 use Rattle.definition.proofs.Places.{number-at}
 use Rattle.definition.proofs.Rows.{starts-up}
@@ -48,6 +49,12 @@ module _ (A : Arith) (n k : ℕ) (columns : List ℕ) (weights v : List A.F) whe
       ap (λ (x : A.F). A.add (gathered A columns weights (block_of A.none n k v) a p c) (A.mul (vector_of A.none weights p) x))
       (sym (block_at A.none n k v (wholes_of columns p) c))
       ∙ sym (sum_more A _ a p h)
+
+-- a list as long as xs is xs filled with its numbers
+pub copied : {E : Type 0} (d : E) (xs ys : List E) → length ys ≡ length xs → ys ≡ fill_range 0 (length xs) (λ i. get_or ys i d) xs
+copied d xs ys h =
+    ext_get_or d ys (fill_range 0 (length xs) (λ i. get_or ys i d) xs) (h ∙ sym (fill_length 0 (length xs) (λ i. get_or ys i d) xs))
+    (λ i p. sym (fill_in 0 (length xs) (λ j. get_or ys j d) xs i d (omega arith) (omega arith) (omega arith)))
 
 -- ---- a row's entries as parts of the lists, from a up to e
 module _ {E : Type 0} {n k a e : ℕ} {columns own : List ℕ} {weights own_weights v : List E} (h : Entries n k a e columns weights v)

@@ -12,8 +12,8 @@ fn sum_values(values: &[f64], a: usize, e: usize) -> f64
     ensures { result ≡ sum_up ieee64 (vector_of ieee64.none values.now) a e }
 {
     let mut sum = 0.0;
-    for i in a..e {
-        sum = sum + values[i];
+    for value in &values[a..e] {
+        sum += *value;
     }
     sum
 }
@@ -68,8 +68,8 @@ fn v0_rows(norm: f64, v0: &mut [f64])
     ensures { v0.new ≡ fill_range 0 (length v0.old)
         (λ i. v0_of ieee64 norm (vector_of ieee64.none v0.old i)) v0.old }
 {
-    for i in 0..v0.len() {
-        v0[i] = numbers::v0_of(norm, v0[i]);
+    for x in v0.iter_mut() {
+        *x = numbers::v0_of(norm, *x);
     }
 }
 

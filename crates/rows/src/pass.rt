@@ -97,74 +97,74 @@ fn put_row(k: usize, row: &[f64; 15], to: usize, out: &mut [f64])
     requires { (k ≤ 15) × (to + k ≤ length out.old) }
     ensures { out.new ≡ fill_range to (to + k) (λ p. vector_of ieee64.none row.now (p - to)) out.old }
 {
-    for c in 0..k {
-        out[to + c] = row[c];
-    }
+    out[to..to + k].copy_from_slice(&row[..k]);
 }
 
-// The rows from `first` up to `end`: `out` begins at the first.
-fn combine_rows(
+// The operator that a pass applies: row starts, edge columns and weights, and inverse weights.
+#[derive(Clone, Copy)]
+struct Operator<'a> {
+    starts: &'a [u64],
+    columns: &'a [u32],
+    weights: &'a [f64],
+    inverse: &'a [f64],
+}
+
+// The rows from `first` up to `end`: `out` begins at the first. A compiled copy for each width K.
+fn combine_rows<const K: usize>(
     n: usize,
-    k: usize,
     by: Multipliers,
+    op: Operator,
     first: usize,
     end: usize,
-    starts: &[u64],
-    columns: &[u32],
-    weights: &[f64],
-    inverse: &[f64],
     v: &[f64],
     prev: &[f64],
     out: &mut [f64],
 )
-    requires pass { Pass n k first end starts.now columns.now weights.now inverse.now v.now prev.now }
-    requires out_len { length out.old ≡ (end - first) * k }
+    requires pass { Pass n K first end op.starts.now op.columns.now op.weights.now op.inverse.now v.now prev.now }
+    requires out_len { length out.old ≡ (end - first) * K }
     ensures { out.new ≡ fill_range 0 (length out.old)
-        (λ p. combined_at ieee64 n k (operator_of ieee64 starts.now columns.now weights.now inverse.now)
-        (multipliers_of by) v.now prev.now (place n k first 0 + p))
+        (λ p. combined_at ieee64 n K (operator_of ieee64 op.entry.starts.now op.entry.columns.now op.entry.weights.now op.entry.inverse.now)
+        (multipliers_of by) v.now prev.now (place n K first 0 + p))
         out.old }
 {
     let rows = end - first;
     for r in 0..rows {
         let i = first + r;
-        let a = starts[i] as usize;
-        let e = starts[i + 1] as usize;
-        let acc = gather(n, k, a, e, columns, weights, v);
-        let row = mix_row(k, by, inverse[i], &acc, i * k, v, prev);
-        put_row(k, &row, r * k, out);
+        let a = op.starts[i] as usize;
+        let e = op.starts[i + 1] as usize;
+        let acc = gather(n, K, a, e, op.columns, op.weights, v);
+        let row = mix_row(K, by, op.inverse[i], &acc, i * K, v, prev);
+        put_row(K, &row, r * K, out);
     }
 }
 
-// The rows from a up to e in the same way, with a compiled copy for each width.
+// The rows from a up to e in the same way, by the copy for their width.
 fn matvec_combine_rows(
     n: usize,
     k: usize,
     by: Multipliers,
+    op: Operator,
     a: usize,
     e: usize,
-    starts: &[u64],
-    columns: &[u32],
-    weights: &[f64],
-    inv: &[f64],
     v: &[f64],
     prev: &[f64],
     out: &mut [f64],
 )
-    requires pass { Pass n k a e starts.now columns.now weights.now inv.now v.now prev.now }
+    requires pass { Pass n k a e op.starts.now op.columns.now op.weights.now op.inverse.now v.now prev.now }
     requires out_len { length out.old ≡ (e - a) * k }
     ensures { out.new ≡ fill_range 0 (length out.old)
-        (λ p. combined_at ieee64 n k (operator_of ieee64 starts.now columns.now weights.now inv.now)
+        (λ p. combined_at ieee64 n k (operator_of ieee64 op.entry.starts.now op.entry.columns.now op.entry.weights.now op.entry.inverse.now)
         (multipliers_of by) v.now prev.now (place n k a 0 + p))
         out.old }
 {
     match k {
-        9 => combine_rows(n, 9, by, a, e, starts, columns, weights, inv, v, prev, out),
-        10 => combine_rows(n, 10, by, a, e, starts, columns, weights, inv, v, prev, out),
-        11 => combine_rows(n, 11, by, a, e, starts, columns, weights, inv, v, prev, out),
-        12 => combine_rows(n, 12, by, a, e, starts, columns, weights, inv, v, prev, out),
-        13 => combine_rows(n, 13, by, a, e, starts, columns, weights, inv, v, prev, out),
-        14 => combine_rows(n, 14, by, a, e, starts, columns, weights, inv, v, prev, out),
-        _ => combine_rows(n, 15, by, a, e, starts, columns, weights, inv, v, prev, out),
+        9 => combine_rows::<9>(n, by, op, a, e, v, prev, out),
+        10 => combine_rows::<10>(n, by, op, a, e, v, prev, out),
+        11 => combine_rows::<11>(n, by, op, a, e, v, prev, out),
+        12 => combine_rows::<12>(n, by, op, a, e, v, prev, out),
+        13 => combine_rows::<13>(n, by, op, a, e, v, prev, out),
+        14 => combine_rows::<14>(n, by, op, a, e, v, prev, out),
+        _ => combine_rows::<15>(n, by, op, a, e, v, prev, out),
     }
 }
 
@@ -199,18 +199,11 @@ pub fn matvec_combine(
         of_v: mul_v,
         of_prev: mul_prev,
     };
-    matvec_combine_rows(
-        n,
-        k,
-        by,
-        first,
-        end,
+    let op = Operator {
         starts,
-        edge_columns,
-        edge_weights,
+        columns: edge_columns,
+        weights: edge_weights,
         inverse,
-        v,
-        prev,
-        &mut out[a..e],
-    );
+    };
+    matvec_combine_rows(n, k, by, op, first, end, v, prev, &mut out[a..e]);
 }

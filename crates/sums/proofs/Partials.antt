@@ -4,14 +4,21 @@ use mathlib.Core.List.{List}
 use Prim.Native.Nat.{ℕ, ◌+◌, ◌-◌, ◌*◌, ◌/◌, ◌%◌, ◌≤◌, ◌<◌}
 use native.Mathlib.Nat.{le_refl}
 use native.Mathlib.Omega.{arith}
+use lib.Seq.{ext_get_or}
 use lib.ListN.{length, get_or, set, replicate, get_or-replicate, length-replicate}
 use Rattle.definition.specs.Arith.{Arith}
 use Rattle.definition.specs.ChunkedColumnReduce.{sum_up}
 use Rattle.definition.specs.Memory.{fill_range, row_at, column_at}
 use Rattle.definition.proofs.Places.{row_of, column_of}
 use Rattle.definition.proofs.Sums.{sum-none, sum_more}
-use Rattle.definition.proofs.Fill.{fill_empty, fill_same, fill_again, fill_next, fill_cong, fill_in, fill_step, fill_ahead}
+use Rattle.definition.proofs.Fill.{fill_length, fill_empty, fill_same, fill_again, fill_next, fill_cong, fill_in, fill_step, fill_ahead}
 use Rattle.sums.specs.Accumulators.{accumulators, raised, summed, with_partial}
+
+-- a list as long as xs is xs filled with its numbers
+pub copied : {E : Type 0} (d : E) (xs ys : List E) → length ys ≡ length xs → ys ≡ fill_range 0 (length xs) (λ i. get_or ys i d) xs
+copied d xs ys h =
+    ext_get_or d ys (fill_range 0 (length xs) (λ i. get_or ys i d) xs) (h ∙ sym (fill_length 0 (length xs) (λ i. get_or ys i d) xs))
+    (λ i p. sym (fill_in 0 (length xs) (λ j. get_or ys j d) xs i d (omega arith) (omega arith) (omega arith)))
 
 -- ---- places
 

@@ -13,7 +13,7 @@ ghost use Rattle.definition.specs.Memory.{vector_of, block_of, fill_range};
 ghost use Rattle.definition.specs.Requirements.{Span, Width};
 ghost use Rattle.sums.specs.Accumulators.{with_partial, product_term};
 
-mod row; // row.rt: what one row adds to the sums, or to the count of isolated rows
+mod row; // row.rt: what one row adds to the sums
 mod rows; // rows.rt: the sums over the rows from `first` up to `end`
 mod put; // put.rt: the sums, copied to their place among the partials
 
@@ -95,8 +95,7 @@ pub fn sums_partial(
     ensures { partials.new ≡ with_partial ieee64 base d
         (λ q i. block_of ieee64.none n d output.now i q) first end partials.old }
 {
-    let mut sums = [0.0; 225];
-    rows::numbers(d, d, first, end, output, &mut sums);
+    let sums = rows::terms(d, d, first, end, output, |x| x);
     put::put_partial(base, d, &sums, partials);
 }
 
@@ -115,7 +114,7 @@ pub fn squares_partial(
     ensures { partials.new ≡ with_partial ieee64 base d
         (λ q i. square ieee64 (block_of ieee64.none n d output.now i q)) first end partials.old }
 {
-    let sums = rows::squares(d, d, first, end, output);
+    let sums = rows::terms(d, d, first, end, output, |x| x * x);
     put::put_partial(base, d, &sums, partials);
 }
 
@@ -125,7 +124,7 @@ pub fn totals(chunks: usize, k: usize, width: usize, partials: &[f64], sums: &mu
     ensures { sums.new ≡ fill_range 0 width (λ p. sum_up ieee64 (λ h. vector_of ieee64.none partials.now (h * (k * k) + p)) 0 chunks)
         (replicate 225 ieee64.zero) }
 {
-    rows::numbers(k * k, width, 0, chunks, partials, sums);
+    *sums = rows::terms(k * k, width, 0, chunks, partials, |x| x);
 }
 
 // The root of the total at place 0: a column's norm.
@@ -146,7 +145,7 @@ pub fn isolated_rows(n: usize, v0: &[f64]) -> usize
 {
     let mut count = 0;
     for i in 0..n {
-        count += row::isolated(v0[i]);
+        count += usize::from(!numbers::above_floor(v0[i]));
     }
     count
 }

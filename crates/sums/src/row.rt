@@ -1,47 +1,25 @@
-// What one row adds to the sums, or to the count of isolated rows. `from` is where the row begins in its list.
-ghost use Rattle.std.specs.Prelude.{◌≡◌, cond, ◌+◌, ◌-◌, ◌*◌, ◌≤◌, ◌<◌, eqb, length};
+// What one row adds to the sums. `from` is where the row begins in its list.
+ghost use Rattle.std.specs.Prelude.{◌≡◌, Float, cond, ◌+◌, ◌-◌, ◌*◌, ◌≤◌, ◌<◌, eqb, length};
 ghost use Rattle.definition.specs.Arith.{ieee64};
-ghost use Rattle.definition.specs.ChunkedColumnReduce.{square};
 ghost use Rattle.definition.specs.Memory.{vector_of, row_at, column_at};
-ghost use Rattle.definition.specs.SpectralEmbedding.{above_floor};
 ghost use Rattle.sums.specs.Accumulators.{raised};
 
-// 1 for the root of an isolated row.
-pub fn isolated(root: f64) -> usize
-    ensures { result ≡ cond (above_floor ieee64 root) 0 1 }
-{
-    if numbers::above_floor(root) { 0 } else { 1 }
-}
-
-// Its numbers.
-pub fn add_numbers(acc: &mut [f64; 225], width: usize, list: &[f64], from: usize)
-    requires { (width ≤ 225) × (from + width ≤ length list.now) }
-    ensures { acc.new ≡ raised ieee64 0 width (λ q. vector_of ieee64.none list.now (from + q)) acc.old }
-{
-    for q in 0..width {
-        acc[q] = acc[q] + list[from + q];
-    }
-}
-
-// The squares of its numbers.
-pub fn add_squares(acc: &mut [f64; 225], width: usize, list: &[f64], from: usize)
-    requires { (width ≤ 225) × (from + width ≤ length list.now) }
-    ensures { acc.new ≡ raised ieee64 0 width (λ q. square ieee64 (vector_of ieee64.none list.now (from + q))) acc.old }
+// Its numbers' terms, to the sums from `at` on.
+pub fn add_terms<F: Fn(f64) -> f64>(
+    acc: &mut [f64; 225],
+    at: usize,
+    width: usize,
+    list: &[f64],
+    from: usize,
+    term: &F,
+)
+    requires sizes { (at + width ≤ 225) × (from + width ≤ length list.now) }
+    requires callable { F.IsAlwaysCallable term.now }
+    ensures { (f : Float → Float) → ((x y : Float) → F.post term.now x y → y ≡ f x)
+        → acc.new ≡ raised ieee64 at (at + width) (λ q. f (vector_of ieee64.none list.now (from + (q - at)))) acc.old }
 {
     for q in 0..width {
-        let x = list[from + q];
-        acc[q] = acc[q] + x * x;
-    }
-}
-
-// x times its numbers, to the sums from `at` on.
-pub fn add_times(acc: &mut [f64; 225], at: usize, width: usize, x: f64, list: &[f64], from: usize)
-    requires { (at + width ≤ 225) × (from + width ≤ length list.now) }
-    ensures { acc.new
-        ≡ raised ieee64 at (at + width) (λ q. ieee64.mul x (vector_of ieee64.none list.now (from + (q - at)))) acc.old }
-{
-    for q in 0..width {
-        acc[at + q] = acc[at + q] + x * list[from + q];
+        acc[at + q] = acc[at + q] + term(list[from + q]);
     }
 }
 
@@ -67,6 +45,7 @@ pub fn add_products(acc: &mut [f64; 225], k: usize, v: &[f64], w: &[f64], from: 
         acc.old }
 {
     for p in 0..k {
-        add_times(acc, p * k, k, v[from + p], w, from);
+        let x = v[from + p];
+        add_terms(acc, p * k, k, w, from, &|y| x * y);
     }
 }

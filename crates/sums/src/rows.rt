@@ -1,5 +1,5 @@
 // The sums over the rows from `first` up to `end`, each from +0 and upward.
-ghost use Rattle.std.specs.Prelude.{◌≡◌, ◌+◌, ◌*◌, ◌≤◌, ◌<◌, length};
+ghost use Rattle.std.specs.Prelude.{◌≡◌, Float, ◌+◌, ◌*◌, ◌≤◌, ◌<◌, length};
 ghost use Rattle.definition.specs.Arith.{ieee64};
 ghost use Rattle.definition.specs.ChunkedColumnReduce.{sum_up, square};
 ghost use Rattle.definition.specs.OrthonormalizeBlock.{dot_term};
@@ -22,33 +22,23 @@ pub fn square_sum(stride: usize, c: usize, first: usize, end: usize, list: &[f64
     acc
 }
 
-// The first `width` numbers of each row, in `acc`, whatever stood there.
-pub fn numbers(
+// The terms of the first `width` numbers of each row.
+pub fn terms<F: Fn(f64) -> f64>(
     stride: usize,
     width: usize,
     first: usize,
     end: usize,
     list: &[f64],
-    acc: &mut [f64; 225],
-)
-    requires { (width ≤ stride) × (width ≤ 225) × (first ≤ end) × (end * stride ≤ length list.now) }
-    ensures { acc.new ≡ summed ieee64 width (λ q i. vector_of ieee64.none list.now (i * stride + q)) first end }
-{
-    let zeros = [0.0; 225];
-    *acc = zeros;
-    for i in first..end {
-        row::add_numbers(acc, width, list, i * stride);
-    }
-}
-
-// Their squares.
-pub fn squares(stride: usize, width: usize, first: usize, end: usize, list: &[f64]) -> [f64; 225]
-    requires { (width ≤ stride) × (width ≤ 225) × (first ≤ end) × (end * stride ≤ length list.now) }
-    ensures { result ≡ summed ieee64 width (λ q i. square ieee64 (vector_of ieee64.none list.now (i * stride + q))) first end }
+    term: F,
+) -> [f64; 225]
+    requires sizes { (width ≤ stride) × (width ≤ 225) × (first ≤ end) × (end * stride ≤ length list.now) }
+    requires callable { F.IsAlwaysCallable term }
+    ensures { (f : Float → Float) → ((x y : Float) → F.post term x y → y ≡ f x)
+        → result ≡ summed ieee64 width (λ q i. f (vector_of ieee64.none list.now (i * stride + q))) first end }
 {
     let mut acc = [0.0; 225];
     for i in first..end {
-        row::add_squares(&mut acc, width, list, i * stride);
+        row::add_terms(&mut acc, 0, width, list, i * stride, &term);
     }
     acc
 }

@@ -8,6 +8,3 @@ use Rattle.columns.proofs.row_delta.Given as goal
 
 abbrev pub invariant-loop-p : goal.invariant-loop-p
 invariant-loop-p l = (l.p ≤ l.c) × (l.sum ≡ add_up ieee64 (ieee64.mul (vector_of nan l.dots l.c) l.own) (λ i. ieee64.mul (vector_of nan l.dots i) (vector_of nan l.row i)) 0 l.p)
-
-abbrev pub decreases-loop-p : goal.decreases-loop-p
-decreases-loop-p l = l.c - l.p

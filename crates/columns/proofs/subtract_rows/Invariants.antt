@@ -10,6 +10,3 @@ abbrev pub invariant-loop-r : goal.invariant-loop-r
 invariant-loop-r l =
     Turn l.rows l.k (with_column ieee64 (block_of nan l.rows l.k l.initial.part) l.c
     (λ i. ieee64.sub (block_of nan l.rows l.k l.initial.part i l.c) (delta ieee64 (vector_of nan l.dots) (vector_of nan l.v0 (l.first + i)) (block_of nan l.rows l.k l.initial.part i) l.c))) l.initial.part l.r l.part
-
-abbrev pub decreases-loop-r : goal.decreases-loop-r
-decreases-loop-r l = l.rows - l.r

@@ -13,6 +13,3 @@ counted v0 i = isolated_rows ieee64 i (vector_of ieee64.none v0)
 
 abbrev pub invariant-loop-i : goal.invariant-loop-i
 invariant-loop-i l = (l.i ≤ l.n) × (l.count ≡ counted l.v0 l.i)
-
-abbrev pub decreases-loop-i : goal.decreases-loop-i
-decreases-loop-i l = l.n - l.i

@@ -1,19 +1,9 @@
-use mathlib.Core.Path.{refl}
-use native.Mathlib.Omega.{arith}
-use lib.ListN.{length-set}
-use Rattle.definition.proofs.Fill.{fill_start, fill_step, fill_to}
+-- The first c are filled, and the rest is put back as it was.
+use Rattle.std.proofs.Common.{rules, ◌≡◌, List, ◌++◌, ap, ◌∙◌, drop, replicate, ℕ}
+use Rattle.columns.proofs.Firsts.{zeros}
 use Rattle.columns.proofs.marks.clear_marks.Goals as goal
 
-pub loop-h-init : goal.loop-h-init
-loop-h-init c = (omega arith, refl, fill_start _ _ _)
-
-pub loop-h-preserved : goal.loop-h-preserved
-loop-h-preserved c =
-    let l = c.loop-h in
-    (omega arith, simp length-set l.invariant.1, fill_step _ _ _ _ (omega arith) l.invariant.2 refl)
-
-pub shape_of-marks : goal.shape_of-marks
-shape_of-marks c = c.loop-h.invariant.1
-
 pub returns : goal.returns
-returns c = fill_to _ _ _ c.loop-h.invariant.2 (omega arith)
+returns c =
+    let e : c.fill.new.self ≡ replicate c.args.c 0 = search rules in
+    ap (λ (l : List ℕ). l ++ drop c.args.c c.args.marks.now) e ∙ zeros c.args.c c.args.marks.now c.requires

@@ -1,20 +1,18 @@
-use mathlib.Core.Path.{◌≡◌, sym, ◌∙◌}
-use native.Mathlib.Omega.{arith}
-use native.Mathlib.Nat.{sub-zero}
-use Rattle.definition.proofs.First.{first-here, first-later, first-none}
-use borrow.Author.Tests.{eq-eqb, ne_eqb}
+-- What `position` found, or c, is the first chunk that is not done.
+use Rattle.std.proofs.Common.{rules, tests, Option, ap, ◌∙◌, take, eqb, ℕ}
+use Rattle.std.specs.Option.{unwrap_or}
+use Rattle.std.proofs.lemmas.Iterator.{YieldsList-from_slice}
+use Rattle.std.proofs.lemmas.Iterator.Search.{position_from_yields_List}
+use lib.Seq.{length-take-le}
+use Rattle.columns.proofs.Firsts.{position_first, first_or}
 use Rattle.columns.proofs.marks.first_undone.Goals as goal
-
-pub loop-h-init : goal.loop-h-init
-loop-h-init c = (omega arith, rw sub-zero)
-
-pub returns-then-marks-h-eq0 : goal.returns-then-marks-h-eq0
-returns-then-marks-h-eq0 c = sym (c.loop-h.invariant.1 ∙ first-here _ _ _ c.loop-h-test.true (eq-eqb _ _ c.if-marks-h-eq0.true))
-
-pub loop-h-preserved : goal.loop-h-preserved
-loop-h-preserved c = (omega arith, c.loop-h.invariant.1 ∙ first-later _ _ _ c.loop-h-test.true (ne_eqb _ _ c.if-marks-h-eq0.false))
 
 pub returns : goal.returns
 returns c =
-    let e : c.loop-h.h ≡ c.args.c = omega arith in
-    sym (c.loop-h.invariant.1 ∙ first-none _ _ _ (omega arith) ∙ e)
+    let k = c.args.c in
+    let marks = c.args.marks.now in
+    c.unwrap_or.ensures
+    ∙ ap (λ (o : Option ℕ). unwrap_or o k)
+    (position_from_yields_List (λ mark. eqb mark 0) _ _ c.position.result c.position.ensures.ran (YieldsList-from_slice _ c.iter.ensures.rest) (λ x b q k. search (rules, tests)))
+    ∙ first_or (λ mark. eqb mark 0) (take k marks) k (length-take-le k marks c.requires)
+    ∙ position_first (λ mark. eqb mark 0) marks k c.requires

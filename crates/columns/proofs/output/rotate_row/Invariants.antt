@@ -8,6 +8,3 @@ use Rattle.columns.proofs.output.rotate_row.Given as goal
 
 abbrev pub invariant-loop-j : goal.invariant-loop-j
 invariant-loop-j l = Cells l.at l.d (λ p. ieee64.mul (rotated ieee64 l.k (λ i. vector_of nan l.row) (block_of nan l.k l.k l.vectors) l.order 0 (p - l.at)) l.weight) l.initial.part l.j l.part
-
-abbrev pub decreases-loop-j : goal.decreases-loop-j
-decreases-loop-j l = l.d - l.j

@@ -8,6 +8,3 @@ use Rattle.columns.proofs.output.turned_number.Given as goal
 
 abbrev pub invariant-loop-p : goal.invariant-loop-p
 invariant-loop-p l = (l.p ≤ l.k) × (l.sum ≡ sum_up ieee64 (λ i. ieee64.mul (vector_of nan l.row i) (block_of nan l.k l.k l.vectors i l.q)) 0 l.p)
-
-abbrev pub decreases-loop-p : goal.decreases-loop-p
-decreases-loop-p l = l.k - l.p

@@ -6,9 +6,9 @@ use Rattle.numbers.proofs.Digits.{floor_ge, floor_lt}
 use Rattle.numbers.proofs.pattern.root_bits.Goals as goal
 use Rattle.numbers.proofs.pattern.root_bits.Goals.{After-nearest-n}
 
-whole : (c : After-nearest-n) → Patterned c.args.bits ((c.parts-p.result.exp / 2 - 26) * 2 ^ 52 + c.nearest-n.result)
+whole : (c : After-nearest-n) → Patterned c.args.bits ((c.parts-sig.result.exp / 2 - 26) * 2 ^ 52 + c.nearest-n.result)
 whole c =
-    let p = c.parts-p in
+    let p = c.parts-sig in
     let a = c.radicand-a in
     let d = c.digits-d in
     pattern_root c.args.bits p.result.sig p.result.exp a.result d.result.root d.result.rest c.nearest-n.result

@@ -18,9 +18,6 @@ overflow_mul-s c = omega (arith, turn_small c.loop-i.invariant)
 pub overflow_add-s : goal.overflow_add-s
 overflow_add-s c = omega (arith, turn_small c.loop-i.invariant)
 
-pub overflow_mul-q : goal.overflow_mul-q
-overflow_mul-q c = omega (arith, turn_small c.loop-i.invariant)
-
 pub returns : goal.returns
 returns c = let l = c.loop-i in turn_last c.args.a l.bits l.q l.r l.i l.invariant c.loop-i-test.false
 
@@ -30,6 +27,6 @@ loop-i-preserved c =
     let a = c.args.a in
     let t = c.loop-i-test.true in
     elim c.if-s-t.branch [
-      | then-s-t w ↦ rw (w.less-is, w.digit-is) (turn_odd a l.bits l.q l.r l.i l.invariant t w.if-s-t.true)
-      | else-s-t w ↦ rw (w.less-is, w.digit-is) (turn_even a l.bits l.q l.r l.i l.invariant t w.if-s-t.false)
+      | then-s-t w ↦ rw (w.q-is, w.r-is) (turn_odd a l.bits l.q l.r l.i l.invariant t w.if-s-t.true)
+      | else-s-t w ↦ rw (w.q-is, w.r-is) (turn_even a l.bits l.q l.r l.i l.invariant t w.if-s-t.false)
     ]

@@ -12,6 +12,3 @@ invariant-loop-i l =
     (l.i ≤ length l.initial.inverse) × (length l.inverse ≡ length l.initial.inverse) × (length l.v0 ≡ length l.initial.v0)
     × (l.inverse ≡ fill_range 0 l.i (λ j. inverse_weight ieee64 (wholes_of l.starts) (vector_of ieee64.none l.values) (l.first + j)) l.initial.inverse)
     × (l.v0 ≡ fill_range 0 l.i (λ j. degree_root ieee64 (wholes_of l.starts) (vector_of ieee64.none l.values) (l.first + j)) l.initial.v0)
-
-abbrev pub decreases-loop-i : goal.decreases-loop-i
-decreases-loop-i l = length l.initial.inverse - l.i

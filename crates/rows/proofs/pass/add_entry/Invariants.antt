@@ -7,6 +7,3 @@ use Rattle.rows.proofs.pass.add_entry.Given as goal
 
 abbrev pub invariant-loop-c : goal.invariant-loop-c
 invariant-loop-c l = (l.c ≤ l.k) × (l.acc ≡ fill_range 0 l.c (λ j. ieee64.add (vector_of ieee64.none l.initial.acc j) (ieee64.mul l.weight (vector_of ieee64.none l.v (l.from + j)))) l.initial.acc)
-
-abbrev pub decreases-loop-c : goal.decreases-loop-c
-decreases-loop-c l = l.k - l.c

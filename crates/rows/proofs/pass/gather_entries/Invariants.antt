@@ -9,6 +9,3 @@ use Rattle.rows.proofs.pass.gather_entries.Given as goal
 
 abbrev pub invariant-loop-p : goal.invariant-loop-p
 invariant-loop-p l = (l.p ≤ length l.columns) × (l.acc ≡ fill_range 0 l.k (gathered ieee64 l.columns l.weights (block_of ieee64.none l.n l.k l.v) 0 l.p) (replicate 15 ieee64.zero))
-
-abbrev pub decreases-loop-p : goal.decreases-loop-p
-decreases-loop-p l = length l.columns - l.p

@@ -15,6 +15,3 @@ invariant-loop-c l =
     (shifted ieee64 l.inverse (vector_of ieee64.none l.v (l.from + j)) (vector_of ieee64.none l.acc j))
     (vector_of ieee64.none l.v (l.from + j)) (vector_of ieee64.none l.prev (l.from + j)))
     (replicate 15 ieee64.zero))
-
-abbrev pub decreases-loop-c : goal.decreases-loop-c
-decreases-loop-c l = l.k - l.c

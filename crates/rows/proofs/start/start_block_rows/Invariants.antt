@@ -8,6 +8,3 @@ use Rattle.rows.proofs.start.start_block_rows.Given as goal
 
 abbrev pub invariant-loop-p : goal.invariant-loop-p
 invariant-loop-p l = (l.p ≤ length l.initial.rows) × (length l.rows ≡ length l.initial.rows) × (l.rows ≡ fill_range 0 l.p (λ j. ieee64.start (l.from + j)) l.initial.rows)
-
-abbrev pub decreases-loop-p : goal.decreases-loop-p
-decreases-loop-p l = length l.initial.rows - l.p

@@ -11,6 +11,3 @@ use Rattle.sums.proofs.row.add_dots.Given as goal
 
 abbrev pub invariant-loop-p : goal.invariant-loop-p
 invariant-loop-p l = (l.p ≤ l.c) × (l.acc ≡ raised ieee64 0 l.p (λ q. ieee64.mul (cond (eqb q l.c) l.x0 (get_or l.v (l.from + q) nan)) (get_or l.v (l.from + l.c) nan)) l.initial.acc)
-
-abbrev pub decreases-loop-p : goal.decreases-loop-p
-decreases-loop-p l = l.c - l.p

@@ -1,3 +1,6 @@
+use Rattle.std.proofs.Common.{rules}
+use lib.ListN.{get_or}
+use lib.Ieee.{nan}
 use mathlib.Core.Path.{◌≡◌, sym, ap}
 use Prim.Native.Nat.{ℕ, ◌≤◌, ◌*◌, ◌+◌}
 use native.Mathlib.Omega.{arith}
@@ -22,7 +25,7 @@ loop-p-preserved c =
     let k = c.args.k in (
       omega arith,
       raised_to ieee64 0 _ _
-          (raised-next ieee64 0 (l.p * k) (l.p * k + k) _ _ _ (omega arith) (omega arith) l.invariant.1 c.add_times.ensures
+          (raised-next ieee64 0 (l.p * k) (l.p * k + k) _ _ _ (omega arith) (omega arith) l.invariant.1 (c.add_terms.ensures (ieee64.mul (get_or c.args.v.now (c.args.from + l.p) nan)) (λ x y e. search rules))
           (λ q u v. rw (row_in k l.p q u v, column_in_lem k l.p q u v)))
           (sym (row_next l.p k)),
     )
@@ -36,5 +39,5 @@ returns c =
 pub overflow_mul-p : goal.overflow_mul-p
 overflow_mul-p c = omega (arith, inside (goal.at.overflow_mul-p c).In-loop-p)
 
-pub add_times-requires : goal.add_times-requires
-add_times-requires c = omega (arith, inside (goal.at.add_times-requires c).In-loop-p)
+pub add_terms-requires-clause-sizes : goal.add_terms-requires-clause-sizes
+add_terms-requires-clause-sizes c = omega (arith, inside (goal.at.add_terms-requires-clause-sizes c).In-loop-p)

@@ -10,6 +10,3 @@ use Rattle.sums.proofs.row.add_products.Given as goal
 
 abbrev pub invariant-loop-p : goal.invariant-loop-p
 invariant-loop-p l = (l.p ≤ l.k) × (l.acc ≡ raised ieee64 0 (l.p * l.k) (λ q. ieee64.mul (get_or l.v (l.from + row_at l.k l.k q) nan) (get_or l.w (l.from + column_at l.k l.k q) nan)) l.initial.acc)
-
-abbrev pub decreases-loop-p : goal.decreases-loop-p
-decreases-loop-p l = l.k - l.p

@@ -10,6 +10,3 @@ use Rattle.sums.proofs.rows.dots.Given as goal
 
 abbrev pub invariant-loop-i : goal.invariant-loop-i
 invariant-loop-i l = (l.first ≤ l.i) × (l.i ≤ l.end) × (l.acc ≡ summed ieee64 (l.c + 1) (dot_term ieee64 (vector_of nan l.v0) (block_of nan l.n l.k l.v) l.c) l.first l.i)
-
-abbrev pub decreases-loop-i : goal.decreases-loop-i
-decreases-loop-i l = l.end - l.i

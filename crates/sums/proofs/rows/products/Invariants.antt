@@ -11,6 +11,3 @@ abbrev pub invariant-loop-i : goal.invariant-loop-i
 invariant-loop-i l =
     (l.first ≤ l.i) × (l.i ≤ l.end)
     × (l.acc ≡ summed ieee64 (l.k * l.k) (product_term ieee64 l.k (block_of nan l.n l.k l.v) (block_of nan l.n l.k l.w)) l.first l.i)
-
-abbrev pub decreases-loop-i : goal.decreases-loop-i
-decreases-loop-i l = l.end - l.i

@@ -9,6 +9,3 @@ use Rattle.sums.proofs.rows.square_sum.Given as goal
 
 abbrev pub invariant-loop-i : goal.invariant-loop-i
 invariant-loop-i l = (l.first ≤ l.i) × (l.i ≤ l.end) × (l.acc ≡ sum_up ieee64 (λ j. square ieee64 (get_or l.list (j * l.stride + l.c) nan)) l.first l.i)
-
-abbrev pub decreases-loop-i : goal.decreases-loop-i
-decreases-loop-i l = l.end - l.i

@@ -1,11 +1,11 @@
 -- At the sizes that it asks for, no step wraps.
-use mathlib.Core.Path.{refl}
 use Prim.Native.Nat.{◌+◌, ◌*◌, ◌≤◌}
 use native.Mathlib.Nat.{mul-le-mul}
 use native.Mathlib.Omega.{arith}
+use Rattle.definition.specs.Arith.{narrowed}
 use Rattle.definition.specs.OrthonormalizeBlock.{fresh_index}
-use Rattle.columns.proofs.fresh_index.Goals as goal
-use Rattle.columns.proofs.fresh_index.Goals.{Start}
+use Rattle.columns.proofs.fresh_number.Goals as goal
+use Rattle.columns.proofs.fresh_number.Goals.{Start}
 
 sizes : (c : Start) → ((c.args.round + 1) * c.args.n ≤ 1_000 * 1_048_576) × ((c.args.round + 1) * c.args.n * c.args.k ≤ 1_000 * 1_048_576 * 15) × (c.args.c * c.args.n ≤ 15 * 1_048_576)
 sizes c =
@@ -27,8 +27,8 @@ pub overflow_add-index-3 : goal.overflow_add-index-3
 overflow_add-index-3 c = omega (arith, sizes (goal.at.overflow_add-index-3 c).Start)
 
 pub returns : goal.returns
-unfolding fresh_index
-returns c = refl
+unfolding fresh_index narrowed
+returns c = c.splitmix_unit.ensures
 
 pub overflow_add-index : goal.overflow_add-index
 overflow_add-index c = omega (arith, sizes (goal.at.overflow_add-index c).Start)
