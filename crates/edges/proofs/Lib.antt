@@ -1,7 +1,7 @@
 -- Laws that the proofs of this crate's functions cite.
 pub mod Order
 pub mod Runs
-pub mod Heaps
+pub mod Moves
 pub mod Insertion
 pub mod Quick
 pub mod Ranks

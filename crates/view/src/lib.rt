@@ -10,29 +10,6 @@ pub struct RowView<'a, 'b> {
     pub weights: &'b [f64],
 }
 
-// The part of a list from a up to e.
-fn columns_between(columns: &[u32], a: usize, e: usize) -> &[u32]
-    requires { (a ≤ e) × (e ≤ length columns.now) }
-    ensures { result.now ≡ take (e - a) (drop a columns.now) }
-{
-    &columns[a..e]
-}
-
-fn weights_between(weights: &[f64], a: usize, e: usize) -> &[f64]
-    requires { (a ≤ e) × (e ≤ length weights.now) }
-    ensures { result.now ≡ take (e - a) (drop a weights.now) }
-{
-    &weights[a..e]
-}
-
-// The column at place p.
-fn column_in(columns: &[u32], p: usize) -> u32
-    requires { p < length columns.now }
-    ensures { result ≡ get_or columns.now p 0 }
-{
-    columns[p]
-}
-
 impl<'a, 'b> RowView<'a, 'b> {
     // The row whose entries stand in the lists from a up to e.
     pub fn new(columns: &'a [u32], weights: &'b [f64], a: usize, e: usize) -> RowView<'a, 'b>
@@ -41,8 +18,8 @@ impl<'a, 'b> RowView<'a, 'b> {
             × (result.weights.now ≡ take (e - a) (drop a weights.now)) }
     {
         RowView {
-            columns: columns_between(columns, a, e),
-            weights: weights_between(weights, a, e),
+            columns: &columns[a..e],
+            weights: &weights[a..e],
         }
     }
 
@@ -58,6 +35,6 @@ impl<'a, 'b> RowView<'a, 'b> {
         requires { p < length self.columns.now }
         ensures { result ≡ get_or self.entry.columns.now p 0 }
     {
-        column_in(self.columns, p)
+        self.columns[p]
     }
 }
