@@ -40,9 +40,10 @@ letters (x ∷ xs) [] h = ((λ e. absurd cc), (λ e. absurd cc))
 letters (x ∷ xs) (y ∷ ys) h =
     let g = both_of (is_small x) (list_all is_small xs) h in
     let r = letters xs ys g.1 in
-    let l = letter x y g.0 in
-    ((λ e. both (is_letter x y) (same_by is_letter xs ys) (l ∙ eq-eqb _ _ cc) (r.0 cc)),
-    (λ e. let k = both_of (is_letter x y) (same_by is_letter xs ys) e in ap₂ (λ (a : ℕ) (l : List ℕ). a ∷ l) (eqb-true _ _ (sym l ∙ k.0)) (r.1 k.1)))
+    let l = letter x y g.0 in (
+      (λ e. both (is_letter x y) (same_by is_letter xs ys) (l ∙ eq-eqb _ _ cc) (r.0 cc)),
+      (λ e. let k = both_of (is_letter x y) (same_by is_letter xs ys) e in ap₂ (λ (a : ℕ) (l : List ℕ). a ∷ l) (eqb-true _ _ (sym l ∙ k.0)) (r.1 k.1)),
+    )
 
 pub same_word : (small word : List ℕ) (t : Bool) → list_all is_small small ≡ true → (IsTrue t ↔ (map to_ascii_lowercase word ≡ map to_ascii_lowercase small))
     → same_by is_letter small word ≡ t

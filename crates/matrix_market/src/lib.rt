@@ -217,7 +217,14 @@ pub fn read_matrix_market(
 {
     match test_text(text) {
         Ok(t) => read_right(
-            text, t.at, t.n as usize, t.entries, t.doubles, starts, columns, values,
+            text,
+            t.at,
+            t.n as usize,
+            t.entries,
+            t.doubles,
+            starts,
+            columns,
+            values,
         ),
         Err(line) => refused(verdict(19, line)),
     }

@@ -307,8 +307,8 @@ pub fn first_repeat(text: &[u8], from: usize, first: u64, limit: u64) -> u64
     requires { (from ≤ length text.now) × (first ≤ from) }
     ensures { result ≡ repeat_from [] first limit (kinds_at text.now from) }
 {
-    let mut keys = [0u64; 32768];
-    let mut links = [0u16; 32768];
-    let mut heads = [0u16; 32768];
+    let mut keys = [0u64; PLACES];
+    let mut links = [0u16; PLACES];
+    let mut heads = [0u16; PLACES];
     by_blocks(text, from, first, limit, &mut keys, &mut links, &mut heads)
 }

@@ -65,11 +65,9 @@ fn size_from(text: &[u8], from: usize) -> Result<HeadRead, u64>
     let mut line = 2;
     while at < text.len() {
         let read = lines::read_line(text, at);
-        let kind = read.kind;
-        let next = read.next;
-        match kind {
+        match read.kind {
             Kind::Blank | Kind::Comment => {
-                at = next;
+                at = read.next;
                 line += 1;
             }
             Kind::Size(r, c, m) => {
@@ -79,7 +77,7 @@ fn size_from(text: &[u8], from: usize) -> Result<HeadRead, u64>
                 return Ok(HeadRead {
                     n: r,
                     m,
-                    at: next,
+                    at: read.next,
                     line: line + 1,
                 });
             }
@@ -178,11 +176,9 @@ pub fn scan(text: &[u8], from: usize, first: u64, n: u64, m: u64) -> Scanned
     };
     while at < text.len() {
         let read = lines::read_line(text, at);
-        let kind = read.kind;
-        let next = read.next;
-        match kind {
+        match read.kind {
             Kind::Blank => {
-                at = next;
+                at = read.next;
                 line += 1;
             }
             Kind::Entry(r, c) => {
@@ -191,7 +187,7 @@ pub fn scan(text: &[u8], from: usize, first: u64, n: u64, m: u64) -> Scanned
                     return stopped(passed, false, line);
                 }
                 passed = with_entry(passed, r, c);
-                at = next;
+                at = read.next;
                 line += 1;
             }
             Kind::Comment | Kind::Size(_, _, _) | Kind::Other => {
