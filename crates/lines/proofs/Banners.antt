@@ -1,66 +1,54 @@
 -- Laws of words that are given ones, and of the banner. Assumes nothing.
-use mathlib.Core.Path.{◌≡◌, refl, sym, ap, ap₂, subst, ◌∙◌}
-use mathlib.Core.Logic.{⊎_elim}
-use mathlib.Core.Bool.{Bool, true, false, ◌&&◌, ◌||◌, false≢true}
+use mathlib.Core.Path.{◌≡◌, refl, sym, ap, ap₂, ◌∙◌}
+use mathlib.Core.Bool.{Bool, true, false, cond, not, ◌&&◌, ◌||◌, false≢true}
 use mathlib.Core.List.{List, [], ◌∷◌}
-use Prim.Native.Nat.{ℕ, suc, ◌+◌, ◌-◌, ◌≤◌, ◌<◌}
+use Prim.Native.Nat.{ℕ, zero, suc, ◌+◌, ◌-◌, ◌≤◌, ◌<◌}
 use native.Mathlib.Omega.{arith}
-use borrow.Author.Tests.{eq-eqb, ne_eqb, le-leb, lt-leb}
+use borrow.Author.Tests.{eq-eqb, eqb-true, le-leb, leb-true}
 use lib.Dec.{eqb, leb}
-use lib.ListN.{length, get_or, take, drop, length-take, drop_of_length-le}
-use Rattle.digits.proofs.Bytes.{both_of, settle, lt_or_ge}
+use lib.Pointwise.{pointwise}
+use lib.ListN.{length, take, drop, length-take}
+use Rattle.std.specs.Prelude.{Option, Some, None, MatchOption, IsTrue, ◌↔◌, ◌==◌, map, is_some}
+use Rattle.std.specs.List.{list_all, take_while}
+use Rattle.std.specs.Char.{to_ascii_lowercase}
+use Rattle.std.proofs.lemmas.Bool.Decides.{nat_tests}
+use Rattle.digits.proofs.Bytes.{both, both_of, not_right, settle}
 use Rattle.lines.specs.Lines.{lines_of, goes_on, words_of}
 use Rattle.lines.specs.Kinds.{bytes_most}
-use Rattle.lines.specs.Banner.{same_by, is_letter, are_words, banner_tests, is_banner}
-use Rattle.lines.specs.Parts.{word_at, line_at, end_length, Skips, same_as, FindsWord, ReadsWord}
+use Rattle.lines.specs.Banner.{same_by, is_letter, are_words, banner_word, banner_tests, is_banner}
+use Rattle.lines.specs.Parts.{line_at, end_length, is_small, four_tests, FindsWord, FailsWord}
 use Rattle.lines.specs.Read.{ReadsBanner}
-use Rattle.lines.specs.declared.WordRead.{WordRead}
-use Rattle.lines.specs.declared.WordRead.TheVariants as W
-use Rattle.lines.proofs.Runs.{here, at_front}
 use Rattle.lines.proofs.Ends.{line_first, next-within}
-use Rattle.lines.proofs.Words.{words_end, first-word-at, words-length}
+use Rattle.lines.proofs.Words.{not_blank, word-front, word-off, words-length}
 
--- ---- a byte
-pub same_here : (exact : Bool) (small b : ℕ) → small ≡ b → true ≡ same_as exact small b
+-- ---- a word "in either case"
+-- a byte is the small letter in either case where both are one in small letters
+letter : (small b : ℕ) → is_small small ≡ true → is_letter small b ≡ (to_ascii_lowercase b == to_ascii_lowercase small)
 unfolding is_letter
-same_here true small b e = sym (eq-eqb small b e)
-same_here false small b e = sym (ap (λ (t : Bool). t || eqb (b + 32) small) (eq-eqb b small (sym e)))
+letter small b h =
+    let g = both_of (leb 97 small) (leb small 122) h in
+    let low : 97 ≤ small = leb-true 97 small g.0 in
+    let high : small ≤ 122 = leb-true small 122 g.1 in
+    grind (arith, nat_tests)
 
-pub same_exact : (exact : Bool) (small b : ℕ) → (small ≡ b → ⊥) → exact ≡ true → false ≡ same_as exact small b
-same_exact true small b e h = sym (ne_eqb small b e)
-same_exact false small b e h = absurd (false≢true h)
+letters : (small word : List ℕ) → list_all is_small small ≡ true → (map to_ascii_lowercase word ≡ map to_ascii_lowercase small → same_by is_letter small word ≡ true)
+    × (same_by is_letter small word ≡ true → map to_ascii_lowercase word ≡ map to_ascii_lowercase small)
+unfolding same_by
+letters [] [] h = ((λ e. refl), (λ e. refl))
+letters [] (y ∷ ys) h = ((λ e. absurd cc), (λ e. absurd cc))
+letters (x ∷ xs) [] h = ((λ e. absurd cc), (λ e. absurd cc))
+letters (x ∷ xs) (y ∷ ys) h =
+    let g = both_of (is_small x) (list_all is_small xs) h in
+    let r = letters xs ys g.1 in
+    let l = letter x y g.0 in (
+      (λ e. both (is_letter x y) (same_by is_letter xs ys) (l ∙ eq-eqb _ _ cc) (r.0 cc)),
+      (λ e. let k = both_of (is_letter x y) (same_by is_letter xs ys) e in ap₂ (λ (a : ℕ) (l : List ℕ). a ∷ l) (eqb-true _ _ (sym l ∙ k.0)) (r.1 k.1)),
+    )
 
-pub same-large : (exact : Bool) (small b : ℕ) → (small ≡ b → ⊥) → exact ≡ false → eqb (b + 32) small ≡ same_as exact small b
-unfolding is_letter
-same-large true small b e h = absurd (false≢true (sym h))
-same-large false small b e h = sym (ap (λ (t : Bool). t || eqb (b + 32) small) (ne_eqb b small (λ d. e (sym d))))
-
--- ---- a word
-module _ (same : ℕ → ℕ → Bool) where
-  same-long : (xs ys : List ℕ) → same_by same xs ys ≡ true → length xs ≡ length ys
-  unfolding same_by
-  same-long [] [] h = refl
-  same-long [] (y ∷ ys) h = absurd (false≢true h)
-  same-long (x ∷ xs) [] h = absurd (false≢true h)
-  same-long (x ∷ xs) (y ∷ ys) h = ap suc (same-long xs ys (both_of (same x y) (same_by same xs ys) h).1)
-
-  pub same_other_length : (xs ys : List ℕ) → (length xs ≡ length ys → ⊥) → false ≡ same_by same xs ys
-  same_other_length xs ys h = sym (settle (same_by same xs ys) (λ e. h (same-long xs ys e)))
-
-  same_cons : (x y : ℕ) (xs ys : List ℕ) (t : Bool) → same x y ≡ t → same_by same (x ∷ xs) (y ∷ ys) ≡ (t && same_by same xs ys)
-  unfolding same_by
-  same_cons x y xs ys t h = ap (λ (s : Bool). s && same_by same xs ys) h
-
-  module _ (xs ys : List ℕ) (i : ℕ) (long : length xs ≡ length ys) where
-    pub same_at : (t : Bool) → i < length xs → same (get_or xs i 0) (get_or ys i 0) ≡ t
-        → same_by same (drop i xs) (drop i ys) ≡ (t && same_by same (drop (i + 1) xs) (drop (i + 1) ys))
-    same_at t h e =
-        ap₂ (same_by same) (here xs i h) (here ys i (omega arith))
-        ∙ same_cons (get_or xs i 0) (get_or ys i 0) (drop (i + 1) xs) (drop (i + 1) ys) t e
-
-    pub same_end : length xs ≤ i → same_by same (drop i xs) (drop i ys) ≡ true
-    unfolding same_by
-    same_end h = ap₂ (same_by same) (drop_of_length-le xs h) (drop_of_length-le ys {i = i} (omega arith))
+pub same_word : (small word : List ℕ) (t : Bool) → list_all is_small small ≡ true → (IsTrue t ↔ (map to_ascii_lowercase word ≡ map to_ascii_lowercase small))
+    → same_by is_letter small word ≡ t
+same_word small word true h e = (letters small word h).0 (e.0 refl)
+same_word small word false h e = settle (same_by is_letter small word) (λ k. false≢true (e.1 ((letters small word h).1 k)))
 
 -- ---- words
 are_nil : (test : List ℕ → Bool) (tests : List (List ℕ → Bool)) → are_words (test ∷ tests) [] ≡ false
@@ -72,20 +60,14 @@ are_cons : (test : List ℕ → Bool) (tests : List (List ℕ → Bool)) (w : Li
 unfolding are_words
 are_cons test tests w ws t h = ap (λ (s : Bool). s && are_words tests ws) h
 
-are_done : (ws : List (List ℕ)) → ws ≡ [] → are_words [] ws ≡ true
+-- whether none is left
+pub are_end : {T : Type 0} (o : Option T) (word : T → List ℕ) (others : T → List (List ℕ)) (ws : List (List ℕ)) (r : Bool)
+    → MatchOption o (ws ≡ []) (λ x. ws ≡ word x ∷ others x) → is_some o ≡ not r → r ≡ are_words [] ws
 unfolding are_words
-are_done ws h = ap (are_words []) h
-
-are_more : (w : List ℕ) (ws vs : List (List ℕ)) → ws ≡ w ∷ vs → are_words [] ws ≡ false
-unfolding are_words
-are_more w ws vs h = ap (are_words []) h
-
-pub are_end : (line : List ℕ) (from end : ℕ) → Skips line from end → leb (length line) end ≡ are_words [] (words_of (drop from line))
-are_end line from end skip =
-    ⊎_elim
-    (λ h. lt-leb (length line) end h ∙ sym (are_more _ (words_of (drop from line)) _ (skip.words ∙ first-word-at line end (skip.here h))))
-    (λ h. le-leb (length line) end h ∙ sym (are_done (words_of (drop from line)) (skip.words ∙ words_end line end h)))
-    (lt_or_ge end (length line))
+are_end None word others ws true h e = sym (ap (are_words []) h)
+are_end None word others ws false h e = absurd cc
+are_end (Some x) word others ws true h e = absurd cc
+are_end (Some x) word others ws false h e = sym (ap (are_words []) h)
 
 are_count : (tests : List (List ℕ → Bool)) (ws : List (List ℕ)) → are_words tests ws ≡ true → length ws ≡ length tests
 unfolding are_words
@@ -94,32 +76,22 @@ are_count [] (w ∷ ws) h = absurd (false≢true h)
 are_count (t ∷ ts) [] h = absurd (false≢true h)
 are_count (t ∷ ts) (w ∷ ws) h = ap suc (are_count ts ws (both_of (t w) (are_words ts ws) h).1)
 
-module _ (test : List ℕ → Bool) (line : List ℕ) (from : ℕ) where
-  pub word_none : (at : ℕ) → Skips line from at → words_of (drop at line) ≡ [] → ReadsWord test line from W.Wrong
-  word_none at skip h tests = ap (are_words (test ∷ tests)) (skip.words ∙ h) ∙ are_nil test tests
+module _ (test : List ℕ → Bool) (ws : List (List ℕ)) where
+  pub fails-none : ws ≡ [] → FailsWord test ws
+  fails-none h tests = ap (are_words (test ∷ tests)) h ∙ are_nil test tests
 
-  module _ (at end : ℕ) (skip : Skips line from at) (more : at < length line) (place : end ≡ at + length (word_at line at)) where
-    first : words_of (drop from line) ≡ take (end - at) (drop at line) ∷ words_of (drop end line)
-    first =
-        skip.words ∙ first-word-at line at (skip.here more)
-        ∙ ap₂ (λ (w : List ℕ) (n : ℕ). w ∷ words_of (drop n line)) (sym (at_front goes_on line at end place)) (sym place)
+  pub fails-other : (w : List ℕ) (us : List (List ℕ)) → ws ≡ w ∷ us → test w ≡ false → FailsWord test ws
+  fails-other w us h n tests = ap (are_words (test ∷ tests)) h ∙ are_cons test tests w us false n
 
-    pub word_other : test (take (end - at) (drop at line)) ≡ false → ReadsWord test line from W.Wrong
-    word_other h tests = ap (are_words (test ∷ tests)) first ∙ are_cons test tests (take (end - at) (drop at line)) (words_of (drop end line)) false h
+  pub behind : (us : List (List ℕ)) → FindsWord test ws us → (tests : List (List ℕ → Bool)) → are_words (test ∷ tests) ws ≡ are_words tests us
+  behind us f tests = ap (are_words (test ∷ tests)) f.first ∙ are_cons test tests f.word us true f.passes
 
-    pub word-right : test (take (end - at) (drop at line)) ≡ true → ReadsWord test line from (W.Right end)
-    word-right h = record { word = take (end - at) (drop at line); words = first; passes = h }
-
-  -- each answer, where it is known which it is
-  module _ (r : WordRead) (reads : ReadsWord test line from r) (tests : List (List ℕ → Bool)) where
-    pub are_wrong : r ≡ W.Wrong → are_words (test ∷ tests) (words_of (drop from line)) ≡ false
-    are_wrong e = subst (ReadsWord test line from) e reads tests
-
-    pub are_right : (next : ℕ) → r ≡ W.Right next → are_words (test ∷ tests) (words_of (drop from line)) ≡ are_words tests (words_of (drop next line))
-    are_right next e = go (subst (ReadsWord test line from) e reads)
-      where
-        go : FindsWord test line from next → are_words (test ∷ tests) (words_of (drop from line)) ≡ are_words tests (words_of (drop next line))
-        go f = ap (are_words (test ∷ tests)) f.words ∙ are_cons test tests f.word (words_of (drop next line)) true f.passes
+-- the last of the words that are looked for
+pub behind_last : {T : Type 0} (o : Option T) (test : List ℕ → Bool) (ws : List (List ℕ)) (others : T → List (List ℕ)) (b : Bool)
+    → b ≡ are_words (test ∷ []) ws → MatchOption o (FailsWord test ws) (λ r. FindsWord test ws (others r))
+    → MatchOption o (b ≡ false) (λ r. b ≡ are_words [] (others r))
+behind_last None test ws others b e h = e ∙ h []
+behind_last (Some r) test ws others b e h = e ∙ behind test ws (others r) h []
 
 -- ---- the banner
 module _ (line : List ℕ) where
@@ -137,27 +109,97 @@ module _ (line : List ℕ) where
       let w = both_of (goes_on line) (are_words banner_tests (words_of line)) g.1 in
       omega (arith, are_count banner_tests (words_of line) w.1, words-length line)
 
-banner_nil : false ≡ is_banner []
-banner_nil = sym (settle (is_banner []) (λ e. absurd (omega (arith, banner-long [] e))))
+-- lists that are equal byte by byte
+equal : (xs ys : List ℕ) → pointwise eqb xs ys ≡ true → xs ≡ ys
+equal [] [] h = refl
+equal [] (y ∷ ys) h = absurd (false≢true h)
+equal (x ∷ xs) [] h = absurd (false≢true h)
+equal (x ∷ xs) (y ∷ ys) h =
+    let g = both_of (eqb x y) (pointwise eqb xs ys) h in ap₂ (λ (a : ℕ) (l : List ℕ). a ∷ l) (eqb-true x y g.0) (equal xs ys g.1)
+
+itself : (xs : List ℕ) → pointwise eqb xs xs ≡ true
+itself [] = refl
+itself (x ∷ xs) = both (eqb x x) (pointwise eqb xs xs) (eq-eqb x x refl) (itself xs)
+
+-- where the first bytes are the banner's word, up to a blank
+exactly : (xs ys : List ℕ) → same_by eqb xs ys ≡ true → ys ≡ xs
+unfolding same_by
+exactly [] [] h = refl
+exactly [] (y ∷ ys) h = absurd (false≢true h)
+exactly (x ∷ xs) [] h = absurd (false≢true h)
+exactly (x ∷ xs) (y ∷ ys) h =
+    let g = both_of (eqb x y) (same_by eqb xs ys) h in ap₂ (λ (a : ℕ) (l : List ℕ). a ∷ l) (sym (eqb-true x y g.0)) (exactly xs ys g.1)
+
+module _ (line : List ℕ) (n : ℕ) (long : n ≡ length (take_while not_blank line)) where
+  no_word : (goes_on line ≡ true → are_words banner_tests (words_of line) ≡ false) → is_banner line ≡ false
+  unfolding is_banner
+  no_word f = not_right (leb (length line) bytes_most) _ (go (goes_on line) refl)
+    where
+      go : (t : Bool) → goes_on line ≡ t → (t && are_words banner_tests (words_of line)) ≡ false
+      go true h = f h
+      go false h = refl
+
+  pub other-word : true ≡ not (pointwise eqb (take n line) banner_word) → is_banner line ≡ false
+  other-word d =
+      let h : take n line ≡ banner_word → ⊥ = λ e. false≢true (sym (d ∙ ap (λ (w : List ℕ). not (pointwise eqb w banner_word)) e ∙ ap not (itself banner_word))) in
+      no_word (λ g. fails-other (same_by eqb banner_word) (words_of line) _ _ (word-front line n long g)
+      (settle (same_by eqb banner_word (take n line)) (λ e. h (exactly banner_word (take n line) e))) four_tests)
+
+  pub banner-word : length line ≤ bytes_most → false ≡ not (pointwise eqb (take n line) banner_word) → is_banner line ≡ are_words four_tests (words_of (drop n line))
+  unfolding same_by
+  banner-word few d =
+      let h : take n line ≡ banner_word = equal (take n line) banner_word (not-false (pointwise eqb (take n line) banner_word) d) in
+      let on : goes_on line ≡ true = true-or (goes_on line) (λ e. absurd (omega (arith, word-off line n long e, ap length h, length-take n line))) in
+      banner-by line true true _ (le-leb _ _ few) on
+      (behind (same_by eqb banner_word) (words_of line) (words_of (drop n line))
+      (record { word = take n line; first = word-front line n long on; passes = ap (same_by eqb banner_word) h }) four_tests)
+    where
+      not-false : (t : Bool) → false ≡ not t → t ≡ true
+      not-false true e = refl
+      not-false false e = absurd cc
+
+      true-or : (t : Bool) → (t ≡ false → ⊥) → t ≡ true
+      true-or true k = refl
+      true-or false k = absurd (k refl)
+
+banner_nil : is_banner [] ≡ false
+banner_nil = settle (is_banner []) (λ e. absurd (omega (arith, banner-long [] e)))
+
+drop_none : (xs : List ℕ) → length xs ≡ 0 → xs ≡ []
+drop_none [] h = refl
+drop_none (x ∷ xs) h = absurd (omega arith)
 
 -- ---- the first line
-pub read_none : (text : List ℕ) → length text ≡ 0 → ReadsBanner text (record { is_right = false; next = 0 })
-read_none text h = record {
-  line = [];
-  lines = λ p. absurd (omega arith);
-  right = banner_nil;
-  within = omega arith;
-  on = λ e. absurd (false≢true (banner_nil ∙ e));
-}
+module _ (text : List ℕ) (end next : ℕ) (e : end ≡ 0 + length (line_at text 0)) where
+  -- where the second line begins; of an empty text, at its end
+  pub read_first : (t : Bool) → next ≡ end + end_length (drop end text) → t ≡ is_banner (take end text) → ReadsBanner text (cond t (Some next) None)
+  read_first t n r = go (length text) refl
+    where
+      b : cond t (Some next) None ≡ cond (is_banner (take end text)) (Some next) None
+      b = ap (λ (s : Bool). cond s (Some next) None) r
 
-pub read_first : (text : List ℕ) (end next : ℕ) (right : Bool) → 0 < length text → end ≡ 0 + length (line_at text 0) → next ≡ end + end_length (drop end text)
-    → right ≡ is_banner (take end text) → ReadsBanner text (record { is_right = right; next = next })
-read_first text end next right h e n r =
-    let k : end - 0 ≡ end = omega arith in
-    record {
-      line = take end text;
-      lines = λ p. line_first text 0 end h e next n ∙ ap (λ (m : ℕ). take m text ∷ lines_of (drop next text)) k;
-      right = r;
-      within = next-within text 0 end h e next n;
-      on = λ b. omega (arith, banner-long (take end text) b, length-take end text);
-    }
+      k : end - 0 ≡ end
+      k = omega arith
+
+      no-bytes : (xs : List ℕ) (i : ℕ) → length xs ≡ 0 → take i xs ≡ []
+      no-bytes xs i h = drop_none (take i xs) (omega (arith, length-take i xs))
+
+      go : (m : ℕ) → length text ≡ m → ReadsBanner text (cond t (Some next) None)
+      go zero h =
+          let none : is_banner (take end text) ≡ false = ap is_banner (no-bytes text end h) ∙ banner_nil in
+          record {
+            line = take end text;
+            next = 0;
+            lines = λ p. absurd (omega arith);
+            right = b ∙ ap (λ (t : Bool). cond t (Some next) None) none ∙ sym (ap (λ (t : Bool). cond t (Some 0) None) none);
+            within = omega arith;
+            on = λ q. absurd (false≢true (sym none ∙ q));
+          }
+      go (suc m) h = record {
+        line = take end text;
+        next = next;
+        lines = λ p. line_first text 0 end (omega arith) e next n ∙ ap (λ (m : ℕ). take m text ∷ lines_of (drop next text)) k;
+        right = b;
+        within = next-within text 0 end (omega arith) e next n;
+        on = λ q. omega (arith, banner-long (take end text) q, length-take end text);
+      }

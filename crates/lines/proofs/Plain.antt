@@ -16,10 +16,8 @@ use Rattle.digits.proofs.Decimals.{value_append, value-one, value_nil}
 use Rattle.lines.specs.Lines.{begins, is_blank, goes_on, words_of}
 use Rattle.lines.specs.Kinds.{bytes_most, largest, value_of, is_number, are_numbers, kind_by, numbers_in, kind_of, kinds_at}
 use Rattle.lines.specs.Read.{ReadsLine}
-use Rattle.lines.specs.Parts.{run, line_goes_on, line_at, end_length, ReadsDigits, ReadsPlain}
+use Rattle.lines.specs.Parts.{run, line_goes_on, line_at, end_length, ReadsDigits}
 use Rattle.lines.specs.declared.Kind.TheVariants.{Entry, Other}
-use Rattle.lines.specs.declared.PlainRead.{PlainRead}
-use Rattle.lines.specs.declared.PlainRead.TheVariants as P
 use Rattle.lines.proofs.Runs.{here, run_on, run_off, at_front}
 use Rattle.lines.proofs.Ends.{goes_other, begins-at, next-within, next-on, line_kinds}
 use Rattle.lines.proofs.Words.{word_on, word_off, word_end, words_end, words_blank, first_word}
@@ -152,14 +150,9 @@ module _ (text : List ℕ) (at row blank column end : ℕ) (first : ReadsDigits 
       (omega (arith, sized)) (omega arith) (omega arith)
       ∙ ap₂ Entry first.is second.is
 
-  pub plain_read : (next : ℕ) → next ≡ end + end_length (drop end text) → ReadsPlain text at (P.Entry row column next)
+  pub plain_read : (next : ℕ) → next ≡ end + end_length (drop end text) → ReadsLine text at (record { kind = Entry row column; next = next })
   plain_read next after = record {
     lines = line_kinds text at end (omega arith) place next after ∙ ap (λ k. k ∷ kinds_at text next) kind;
     on = next-on text at end (omega arith) place next after;
     within = next-within text at end (omega arith) place next after;
   }
-
--- where it is known that the line is a plain one
-pub plain_of : (text : List ℕ) (at : ℕ) (r : PlainRead) → ReadsPlain text at r → (row column next : ℕ) → r ≡ P.Entry row column next
-    → ReadsLine text at (record { kind = Entry row column; next = next })
-plain_of text at r reads row column next e = subst (ReadsPlain text at) e reads

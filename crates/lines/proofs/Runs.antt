@@ -32,7 +32,7 @@ module _ (on : List ℕ → Bool) where
       go true h = omega arith
       go false h = omega arith
 
-  run-front : (xs : List ℕ) → take (length (run on xs)) xs ≡ run on xs
+  pub run-front : (xs : List ℕ) → take (length (run on xs)) xs ≡ run on xs
   unfolding run
   run-front [] = refl
   run-front (b ∷ bs) = go (on (b ∷ bs)) (run-front bs)

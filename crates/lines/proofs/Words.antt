@@ -1,25 +1,22 @@
 -- Laws of words: blanks before them, and that the words of a line are the first word and those behind it. Assumes nothing.
-use mathlib.Core.Path.{◌≡◌, refl, sym, ap, ◌∙◌}
+use mathlib.Core.Path.{◌≡◌, refl, sym, ap, subst, ◌∙◌}
 use mathlib.Core.Bool.{Bool, true, false, cond, not, ◌||◌, false≢true}
 use mathlib.Core.List.{List, [], ◌∷◌}
 use Prim.Native.Nat.{ℕ, suc, ◌+◌, ◌≤◌, ◌<◌}
 use native.Mathlib.Omega.{arith}
-use borrow.Author.Tests.{not-true, eq-eqb, ne_eqb}
+use native.Mathlib.Numerals.{one-add}
+use borrow.Author.Tests.{not-true}
 use lib.Dec.{eqb}
-use lib.ListN.{length, get_or, drop, drop_of_length-le}
-use Rattle.lines.specs.Lines.{holds, is_blank, goes_on, on_first, words_of}
-use Rattle.lines.specs.Parts.{run, word_at}
-use Rattle.lines.proofs.Runs.{here, run_on, run_off, at_rest}
+use Rattle.std.proofs.lemmas.Bool.Decides.{nat_tests}
+use lib.ListN.{length, get_or, take, drop, drop_of_length-le}
+use Rattle.std.specs.List.{prefix_len, take_while, list_any, starts_with}
+use Rattle.std.proofs.lemmas.List.Sums.{prefix_len-le-length}
+use Rattle.std.proofs.lemmas.List.Folds.{length-prefix_len}
+use Rattle.lines.specs.Lines.{begins, holds, is_blank, goes_on, on_first, words_of}
+use Rattle.lines.specs.Parts.{run}
+use Rattle.lines.proofs.Runs.{here, run_on, run_off, run-most, run-front}
 
 -- ---- blanks
-pub blank_space : (b : ℕ) → b ≡ 32 → true ≡ is_blank b
-unfolding is_blank
-blank_space b e = sym (ap (λ (t : Bool). t || eqb b 9) (eq-eqb b 32 e))
-
-pub blank_tab : (b : ℕ) → (b ≡ 32 → ⊥) → eqb b 9 ≡ is_blank b
-unfolding is_blank
-blank_tab b e = sym (ap (λ (t : Bool). t || eqb b 9) (ne_eqb b 32 e))
-
 pub goes_nil : goes_on [] ≡ false
 unfolding goes_on
 goes_nil = refl
@@ -76,12 +73,68 @@ first_word (b ∷ bs) h =
     go true e k f = words_cons b bs true k e ∙ ap (on_first b) (f e)
     go false e k f = words_cons b bs false k e ∙ rw (run_off goes_on bs e)
 
--- from a place on
-pub first-word-at : (line : List ℕ) (from : ℕ) → goes_on (drop from line) ≡ true
-    → words_of (drop from line) ≡ word_at line from ∷ words_of (drop (from + length (word_at line from)) line)
-first-word-at line from h =
-    first_word (drop from line) h
-    ∙ ap (λ (l : List ℕ). word_at line from ∷ words_of l) (sym (at_rest goes_on line from (from + length (word_at line from)) refl))
+-- its first word, up to a blank
+abbrev pub not_blank : ℕ → Bool
+not_blank b = not (is_blank b)
+
+run_length : (xs : List ℕ) → length (run goes_on xs) ≡ prefix_len not_blank xs
+unfolding run goes_on
+run_length [] = refl
+run_length (b ∷ bs) = go (not_blank b) (run_length bs)
+  where
+    go : (t : Bool) → length (run goes_on bs) ≡ prefix_len not_blank bs → length (cond t (b ∷ run goes_on bs) []) ≡ cond t (1 + prefix_len not_blank bs) 0
+    go true h = omega (arith, h)
+    go false h = refl
+
+module _ (xs : List ℕ) (n : ℕ) (long : n ≡ length (take_while not_blank xs)) where
+  word-long : length (run goes_on xs) ≡ n
+  word-long = run_length xs ∙ sym (length-prefix_len not_blank xs) ∙ sym long
+
+  pub word-most : n ≤ length xs
+  word-most = omega (arith, word-long, run-most goes_on xs)
+
+  pub word-front : goes_on xs ≡ true → words_of xs ≡ take n xs ∷ words_of (drop n xs)
+  word-front h =
+      let P : ℕ → Type 0 = λ m. words_of xs ≡ take m xs ∷ words_of (drop m xs) in
+      subst P word-long (first_word xs h ∙ ap (λ (w : List ℕ). w ∷ words_of (drop (length (run goes_on xs)) xs)) (sym (run-front goes_on xs)))
+
+  -- where a line begins with a blank, or has no byte, no word stands in front
+  pub word-off : goes_on xs ≡ false → n ≡ 0
+  word-off h = sym word-long ∙ ap length (run_off goes_on xs h)
+
+-- behind the blanks in front
+behind_blanks : (xs : List ℕ) → words_of (drop (prefix_len is_blank xs) xs) ≡ words_of xs
+behind_blanks [] = refl
+behind_blanks (b ∷ bs) = go (is_blank b) refl (behind_blanks bs)
+  where
+    go : (t : Bool) → is_blank b ≡ t → words_of (drop (prefix_len is_blank bs) bs) ≡ words_of bs
+        → words_of (drop (cond t (1 + prefix_len is_blank bs) 0) (b ∷ bs)) ≡ words_of (b ∷ bs)
+    go true e h = rw one-add (h ∙ sym (after_blank b bs e))
+    go false e h = refl
+
+goes_behind : (xs : List ℕ) → 1 ≤ length (drop (prefix_len is_blank xs) xs) → goes_on (drop (prefix_len is_blank xs) xs) ≡ true
+goes_behind [] = λ h. absurd (omega arith)
+goes_behind (b ∷ bs) = go (is_blank b) refl (goes_behind bs)
+  where
+    go : (t : Bool) → is_blank b ≡ t → (1 ≤ length (drop (prefix_len is_blank bs) bs) → goes_on (drop (prefix_len is_blank bs) bs) ≡ true)
+        → 1 ≤ length (drop (cond t (1 + prefix_len is_blank bs) 0) (b ∷ bs)) → goes_on (drop (cond t (1 + prefix_len is_blank bs) 0) (b ∷ bs)) ≡ true
+    go true e h = rw one-add h
+    go false e h = λ k. goes_cons b bs ∙ ap not e
+
+module _ (xs : List ℕ) (n : ℕ) (long : n ≡ length (take_while is_blank xs)) where
+  blanks-long : prefix_len is_blank xs ≡ n
+  blanks-long = sym (length-prefix_len is_blank xs) ∙ sym long
+
+  pub blanks-most : n ≤ length xs
+  blanks-most = omega (arith, blanks-long, prefix_len-le-length is_blank xs)
+
+  pub blanks-words : words_of (drop n xs) ≡ words_of xs
+  blanks-words = let P : ℕ → Type 0 = λ m. words_of (drop m xs) ≡ words_of xs in subst P blanks-long (behind_blanks xs)
+
+  pub blanks-word : 1 ≤ length (drop n xs) → goes_on (drop n xs) ≡ true
+  blanks-word =
+      let P : ℕ → Type 0 = λ m. 1 ≤ length (drop m xs) → goes_on (drop m xs) ≡ true in
+      subst P blanks-long (goes_behind xs)
 
 -- no more words than bytes
 pub words-length : (xs : List ℕ) → length (words_of xs) ≤ length xs
@@ -100,18 +153,13 @@ words-length (b ∷ bs) = go (is_blank b) (goes_on bs) (words-length bs)
     go false false h = omega arith
 
 -- ---- whether a line has a byte
-module _ (b : ℕ) where
-  holds_cons : (x : ℕ) (xs : List ℕ) (t : Bool) → eqb x b ≡ t → holds b (x ∷ xs) ≡ (t || holds b xs)
-  unfolding holds
-  holds_cons x xs t e = ap (λ (s : Bool). s || holds b xs) e
+pub holds_any : (b : ℕ) (xs : List ℕ) → list_any (λ y. eqb y b) xs ≡ holds b xs
+unfolding holds
+holds_any b [] = refl
+holds_any b (x ∷ xs) = ap (λ (t : Bool). eqb x b || t) (holds_any b xs)
 
-  module _ (line : List ℕ) (i : ℕ) where
-    pub holds-here : i < length line → get_or line i 0 ≡ b → holds b (drop i line) ≡ true
-    holds-here h e = ap (holds b) (here line i h) ∙ holds_cons (get_or line i 0) (drop (i + 1) line) true (eq-eqb (get_or line i 0) b e)
-
-    pub holds_later : i < length line → (get_or line i 0 ≡ b → ⊥) → holds b (drop i line) ≡ holds b (drop (i + 1) line)
-    holds_later h e = ap (holds b) (here line i h) ∙ holds_cons (get_or line i 0) (drop (i + 1) line) false (ne_eqb (get_or line i 0) b e)
-
-    pub holds_end : length line ≤ i → holds b (drop i line) ≡ false
-    unfolding holds
-    holds_end h = ap (holds b) (drop_of_length-le line h)
+-- whether it begins with one
+pub begins_with : (b : ℕ) (xs : List ℕ) → starts_with eqb xs (b ∷ []) ≡ begins b xs
+unfolding begins
+begins_with b [] = refl
+begins_with b (x ∷ xs) = grind (arith, nat_tests)

@@ -1,15 +1,17 @@
 // Lines of a Matrix Market text: where each ends, and what it says.
 #![tactic(auto)]
 
-ghost use Rattle.std.specs.Prelude.{◌≡◌, true, false, List, [], ◌∷◌, ℕ, ◌+◌, ◌*◌, ◌≤◌, ◌<◌, leb, length, drop};
+ghost use Rattle.std.specs.Prelude.{◌≡◌, false, [], ◌∷◌, ◌+◌, ◌*◌, ◌^◌, ◌≤◌, ◌<◌, length, drop, not, IsTrue, IfSome, MatchOption, SomeIff};
+ghost use Rattle.std.specs.List.{list_all, take_while};
 ghost use Rattle.lines.specs.Lines.{begins, holds, is_blank, words_of};
-ghost use Rattle.lines.specs.Kinds.{value_of, largest, kind_of, numbers_in};
-ghost use Rattle.lines.specs.Banner.{same_by, are_words, is_banner};
+ghost use Rattle.lines.specs.Kinds.{kind_of, numbers_in};
+ghost use Rattle.lines.specs.declared.Kind.TheVariants.{Other};
+ghost use Rattle.lines.specs.Banner.{same_by, is_letter, are_words, is_banner};
 ghost use Rattle.lines.specs.Read.{ReadsLine, ReadsBanner};
-ghost use Rattle.lines.specs.Parts.{line_goes_on, word_at, line_at, end_length, Skips, number_of, ReadsNumber, kind_with, same_as, ReadsWord, four_tests, ReadsDigits, ReadsPlain};
+ghost use Rattle.lines.specs.Parts.{line_goes_on, line_at, end_length, number_of, is_small, FindsWord, FailsWord, four_tests, ReadsDigits};
 
 // Behind the banner: nothing, a comment, two numbers, three numbers, or what no line may say.
-#[derive(Clone, Copy)]
+#[derive(Clone, Copy, PartialEq, Eq, Debug)]
 pub enum Kind {
     Blank,
     Comment,
@@ -25,28 +27,6 @@ pub struct LineRead {
     pub next: usize,
 }
 
-// Whether the first line is the banner, and where the second begins.
-#[derive(Drop)]
-pub struct BannerRead {
-    pub is_right: bool,
-    pub next: usize,
-}
-
-// A number and the place behind it, no word at all, or a word that is no number.
-#[derive(Drop)]
-enum NumberRead {
-    Found { value: u64, next: usize },
-    None,
-    Wrong,
-}
-
-// The place behind the word that was looked for, or that another stands there, or none.
-#[derive(Drop)]
-enum WordRead {
-    Right(usize),
-    Wrong,
-}
-
 // Digits as a number, and the place behind them.
 #[derive(Drop)]
 struct DigitsRead {
@@ -54,148 +34,96 @@ struct DigitsRead {
     next: usize,
 }
 
-// A line with just two numbers and one blank between them, and where the next line begins; or any other.
-#[derive(Drop)]
-enum PlainRead {
-    Entry { row: u64, column: u64, next: usize },
-    Other,
-}
-
 // No line has more bytes.
 const BYTES_MOST: usize = 1024;
 
 // ---- a line's words
 
+#[tactic(auto, unfolding(crate::specs::Lines::is_blank))]
 fn is_blank(b: u8) -> bool
     ensures { result ≡ is_blank b }
 {
-    if b == b' ' {
-        return true;
-    }
-    b == b'\t'
+    b == b' ' || b == b'\t'
 }
 
-// The place of the next word, or the end.
-fn skip_blanks(line: &[u8], from: usize) -> usize
-    ensures { Skips line.now from result }
+// How many blanks stand in front.
+fn blanks_before(line: &[u8]) -> usize
+    ensures { result ≡ length (take_while is_blank line.now) }
 {
-    let mut i = from;
-    while i < line.len() {
-        if !is_blank(line[i]) {
-            return i;
+    line.iter().take_while(|b| is_blank(**b)).count()
+}
+
+// How many bytes stand before the first blank.
+fn word_length(line: &[u8]) -> usize
+    ensures { result ≡ length (take_while (λ b. not (is_blank b)) line.now) }
+{
+    line.iter().take_while(|b| !is_blank(**b)).count()
+}
+
+// The first word, and what stands behind it.
+fn next_word(line: &[u8]) -> Option<(&[u8], &[u8])>
+    ensures { MatchOption result (words_of line.now ≡ []) (λ r. words_of line.now ≡ r.0.now ∷ words_of r.1.now) }
+{
+    let (_, words) = line.split_at(blanks_before(line));
+    if words.is_empty() {
+        return None;
+    }
+    Some(words.split_at(word_length(words)))
+}
+
+// One digit more behind a number, where that stays below 2^64.
+fn with_digit(value: u64, digit: u64) -> Option<u64>
+    ensures { SomeIff result (value * 10 + digit < 2 ^ 64) (value * 10 + digit) }
+{
+    value.checked_mul(10)?.checked_add(digit)
+}
+
+// A word as a number. One too large settles it: the number only grows.
+fn read_number(word: &[u8]) -> Option<u64>
+    ensures { result ≡ number_of word.now }
+{
+    let mut value = 0;
+    for b in word {
+        if !digits::is_digit(*b) {
+            return None;
         }
-        i += 1;
+        value = with_digit(value, (*b - b'0') as u64)?;
     }
-    i
-}
-
-// Whether one digit more stays below 2^64: 1844674407370955161 is a tenth of it.
-fn has_room(value: u64, digit: u64) -> bool
-    requires { digit < 10 }
-    ensures { result ≡ leb (value * 10 + digit) largest }
-{
-    if value < 1844674407370955161 {
-        return true;
-    }
-    if 1844674407370955161 < value {
-        return false;
-    }
-    digit <= 5
-}
-
-// The word that stands at `from`, as a number. One too large settles it: the number only grows.
-fn read_number(line: &[u8], from: usize) -> NumberRead
-    ensures { result ≡ number_of (word_at line.now from) from }
-{
-    let mut value: u64 = 0;
-    let mut i = from;
-    while i < line.len() {
-        let b = line[i];
-        if !digits::is_digit(b) {
-            if is_blank(b) {
-                return NumberRead::Found { value, next: i };
-            }
-            return NumberRead::Wrong;
-        }
-        let digit = (b - b'0') as u64;
-        if !has_room(value, digit) {
-            return NumberRead::Wrong;
-        }
-        value = value * 10 + digit;
-        i += 1;
-    }
-    NumberRead::Found { value, next: i }
-}
-
-// The next word, as a number.
-fn next_number(line: &[u8], from: usize) -> NumberRead
-    ensures { ReadsNumber line.now from result }
-{
-    let at = skip_blanks(line, from);
-    if line.len() <= at {
-        return NumberRead::None;
-    }
-    read_number(line, at)
+    Some(value)
 }
 
 // ---- what a line says
 
-// Two numbers are read, and end at `from`.
-fn after_two(line: &[u8], first: u64, second: u64, from: usize) -> Kind
-    ensures { (v w : List ℕ) → value_of v ≡ first → value_of w ≡ second → result ≡ kind_with (v ∷ w ∷ []) (words_of (drop from line.now)) }
+// By its numbers: none, two or three of them.
+fn read_numbers(line: &[u8]) -> Option<Kind>
+    ensures { MatchOption result (numbers_in line.now ≡ Other) (λ kind. kind ≡ numbers_in line.now) }
 {
-    match next_number(line, from) {
-        NumberRead::Found { value, next } => {
-            let end = skip_blanks(line, next);
-            if line.len() <= end {
-                return Kind::Size(first, second, value);
-            }
-            Kind::Other
-        }
-        NumberRead::None => Kind::Entry(first, second),
-        NumberRead::Wrong => Kind::Other,
-    }
-}
-
-// One number is read, and ends at `from`.
-fn after_one(line: &[u8], first: u64, from: usize) -> Kind
-    ensures { (v : List ℕ) → value_of v ≡ first → result ≡ kind_with (v ∷ []) (words_of (drop from line.now)) }
-{
-    match next_number(line, from) {
-        NumberRead::Found { value, next } => after_two(line, first, value, next),
-        NumberRead::None => Kind::Other,
-        NumberRead::Wrong => Kind::Other,
-    }
-}
-
-fn read_numbers(line: &[u8]) -> Kind
-    ensures { result ≡ numbers_in line.now }
-{
-    match next_number(line, 0) {
-        NumberRead::Found { value, next } => after_one(line, value, next),
-        NumberRead::None => Kind::Blank,
-        NumberRead::Wrong => Kind::Other,
+    let Some((word, line)) = next_word(line) else {
+        return Some(Kind::Blank);
+    };
+    let row = read_number(word)?;
+    let (word, line) = next_word(line)?;
+    let column = read_number(word)?;
+    let Some((word, line)) = next_word(line) else {
+        return Some(Kind::Entry(row, column));
+    };
+    let entries = read_number(word)?;
+    match next_word(line) {
+        Some(_) => None,
+        None => Some(Kind::Size(row, column, entries)),
     }
 }
 
 fn begins_comment(line: &[u8]) -> bool
     ensures { result ≡ begins 37 line.now }
 {
-    if line.len() == 0 {
-        return false;
-    }
-    line[0] == b'%'
+    line.starts_with(b"%")
 }
 
 fn holds_return(line: &[u8]) -> bool
     ensures { result ≡ holds 13 line.now }
 {
-    for i in 0..line.len() {
-        if line[i] == b'\r' {
-            return true;
-        }
-    }
-    false
+    line.contains(&b'\r')
 }
 
 fn kind_of(line: &[u8]) -> Kind
@@ -205,7 +133,7 @@ fn kind_of(line: &[u8]) -> Kind
         return Kind::Other;
     }
     if !begins_comment(line) {
-        return read_numbers(line);
+        return read_numbers(line).unwrap_or(Kind::Other);
     }
     if holds_return(line) {
         return Kind::Other;
@@ -215,38 +143,31 @@ fn kind_of(line: &[u8]) -> Kind
 
 // ---- where a line ends
 
-// Whether the line goes on at i: neither a newline stands there, nor a carriage return and a newline. Most bytes are above both.
+// Whether the line goes on at i: the text does, and neither a newline stands there, nor a carriage return and a newline.
 fn line_goes_on(text: &[u8], i: usize) -> bool
-    requires { i < length text.now }
     ensures { result ≡ line_goes_on (drop i text.now) }
 {
-    if b'\r' < text[i] {
-        return true;
-    }
-    if text[i] == b'\n' {
+    if text.len() <= i {
         return false;
     }
-    if text[i] != b'\r' {
-        return true;
+    match text[i] {
+        b'\n' => false,
+        b'\r' => text.len() <= i + 1 || text[i + 1] != b'\n',
+        _ => true,
     }
-    if text.len() <= i + 1 {
-        return true;
-    }
-    text[i + 1] != b'\n'
 }
 
 // The place behind the last byte of the line that begins at `at`.
 fn line_end(text: &[u8], at: usize) -> usize
+    requires { at ≤ length text.now }
     ensures { result ≡ at + length (line_at text.now at) }
 {
-    let mut i = at;
-    while i < text.len() {
+    for i in at..text.len() {
         if !line_goes_on(text, i) {
             return i;
         }
-        i += 1;
     }
-    i
+    text.len()
 }
 
 // The place behind what ends the line.
@@ -254,13 +175,11 @@ fn next_line(text: &[u8], end: usize) -> usize
     requires { (end ≤ length text.now) × (line_goes_on (drop end text.now) ≡ false) }
     ensures { result ≡ end + end_length (drop end text.now) }
 {
-    if text.len() <= end {
-        return end;
+    match text.get(end) {
+        None => end,
+        Some(b'\n') => end + 1,
+        Some(_) => end + 2,
     }
-    if text[end] == b'\n' {
-        return end + 1;
-    }
-    end + 2
 }
 
 // ---- a line
@@ -278,60 +197,54 @@ fn read_any_line(text: &[u8], at: usize) -> LineRead
 
 // The digits from `from` on, at most 18 of them behind leading zeros, so that nothing overflows: a line with more is no plain one.
 fn read_digits(text: &[u8], from: usize) -> DigitsRead
+    requires { from ≤ length text.now }
     ensures { ReadsDigits text.now from result.value result.next }
 {
     let mut value: u64 = 0;
-    let mut i = from;
-    while i < text.len() {
+    for i in from..text.len() {
         let b = text[i];
-        if !digits::is_digit(b) {
-            return DigitsRead { value, next: i };
-        }
-        if 100000000000000000 <= value {
+        if !digits::is_digit(b) || 100000000000000000 <= value {
             return DigitsRead { value, next: i };
         }
         value = value * 10 + (b - b'0') as u64;
-        i += 1;
     }
-    DigitsRead { value, next: i }
+    DigitsRead {
+        value,
+        next: text.len(),
+    }
 }
 
-// Most lines of a file are plain ones, so these are gone over once.
-fn read_plain(text: &[u8], at: usize) -> PlainRead
+// A line with just two numbers and one blank between them; or nothing. Most lines of a file are such plain ones, so these are gone over once.
+fn read_plain(text: &[u8], at: usize) -> Option<LineRead>
     requires { at < length text.now }
-    ensures { ReadsPlain text.now at result }
+    ensures { IfSome result (ReadsLine text.now at) }
 {
     let first = read_digits(text, at);
     let blank = first.next;
     if blank == at {
-        return PlainRead::Other;
+        return None;
     }
     if text.len() <= blank {
-        return PlainRead::Other;
+        return None;
     }
     if !is_blank(text[blank]) {
-        return PlainRead::Other;
+        return None;
     }
     let from = blank + 1;
     let second = read_digits(text, from);
     let end = second.next;
     if end == from {
-        return PlainRead::Other;
+        return None;
     }
     if BYTES_MOST < end - at {
-        return PlainRead::Other;
+        return None;
     }
-    if end < text.len() {
-        if line_goes_on(text, end) {
-            return PlainRead::Other;
-        }
+    if line_goes_on(text, end) {
+        return None;
     }
+    let kind = Kind::Entry(first.value, second.value);
     let next = next_line(text, end);
-    PlainRead::Entry {
-        row: first.value,
-        column: second.value,
-        next,
-    }
+    Some(LineRead { kind, next })
 }
 
 // The line that begins at `at`.
@@ -340,93 +253,45 @@ pub fn read_line(text: &[u8], at: usize) -> LineRead
     ensures { ReadsLine text.now at result }
 {
     match read_plain(text, at) {
-        PlainRead::Entry { row, column, next } => LineRead {
-            kind: Kind::Entry(row, column),
-            next,
-        },
-        PlainRead::Other => read_any_line(text, at),
+        Some(line) => line,
+        None => read_any_line(text, at),
     }
 }
 
 // ---- the banner
 
-// Whether b is the byte of a word, or its small letter in either case: a large letter is 32 below.
-fn same_byte(small: u8, b: u8, exact: bool) -> bool
-    ensures { result ≡ same_as exact small b }
+// What stands behind the first word, if that is this word of small letters, "in either case".
+fn behind_word<'a>(line: &'a [u8], small: &[u8]) -> Option<&'a [u8]>
+    requires { IsTrue (list_all is_small small.now) }
+    ensures { MatchOption result (FailsWord (same_by is_letter small.now) (words_of line.now))
+        (λ rest. FindsWord (same_by is_letter small.now) (words_of line.now) (words_of rest.now)) }
 {
-    if small == b {
-        return true;
+    let (word, rest) = next_word(line)?;
+    if !word.eq_ignore_ascii_case(small) {
+        return None;
     }
-    if exact {
-        return false;
-    }
-    if 223 < b {
-        return false;
-    }
-    b + 32 == small
+    Some(rest)
 }
 
-fn same_word(small: &[u8], word: &[u8], exact: bool) -> bool
-    ensures { result ≡ same_by (same_as exact) small.now word.now }
+// What stands behind the four words that follow on the banner's first.
+fn behind_words(line: &[u8]) -> Option<&[u8]>
+    ensures { MatchOption result (are_words four_tests (words_of line.now) ≡ false)
+        (λ rest. are_words four_tests (words_of line.now) ≡ are_words [] (words_of rest.now)) }
 {
-    if small.len() != word.len() {
-        return false;
-    }
-    for i in 0..small.len() {
-        if !same_byte(small[i], word[i], exact) {
-            return false;
-        }
-    }
-    true
-}
-
-// The place behind the word that stands at `from`.
-fn word_end(line: &[u8], from: usize) -> usize
-    ensures { result ≡ from + length (word_at line.now from) }
-{
-    let mut i = from;
-    while i < line.len() {
-        if is_blank(line[i]) {
-            return i;
-        }
-        i += 1;
-    }
-    i
-}
-
-// Whether the next word is this one.
-fn read_word(line: &[u8], from: usize, small: &[u8], exact: bool) -> WordRead
-    ensures { ReadsWord (same_by (same_as exact) small.now) line.now from result }
-{
-    let at = skip_blanks(line, from);
-    if line.len() <= at {
-        return WordRead::Wrong;
-    }
-    let end = word_end(line, at);
-    if !same_word(small, &line[at..end], exact) {
-        return WordRead::Wrong;
-    }
-    WordRead::Right(end)
+    let line = behind_word(line, b"matrix")?;
+    let line = behind_word(line, b"coordinate")?;
+    let line = behind_word(line, b"pattern")?;
+    behind_word(line, b"symmetric")
 }
 
 // The four words behind the first, and nothing behind them.
-fn are_words(line: &[u8], from: usize) -> bool
-    ensures { result ≡ are_words four_tests (words_of (drop from line.now)) }
+fn are_words(line: &[u8]) -> bool
+    ensures { result ≡ are_words four_tests (words_of line.now) }
 {
-    let WordRead::Right(second) = read_word(line, from, b"matrix", false) else {
+    let Some(rest) = behind_words(line) else {
         return false;
     };
-    let WordRead::Right(third) = read_word(line, second, b"coordinate", false) else {
-        return false;
-    };
-    let WordRead::Right(fourth) = read_word(line, third, b"pattern", false) else {
-        return false;
-    };
-    let WordRead::Right(last) = read_word(line, fourth, b"symmetric", false) else {
-        return false;
-    };
-    let end = skip_blanks(line, last);
-    line.len() <= end
+    next_word(rest).is_none()
 }
 
 fn is_banner(line: &[u8]) -> bool
@@ -435,30 +300,20 @@ fn is_banner(line: &[u8]) -> bool
     if BYTES_MOST < line.len() {
         return false;
     }
-    if line.len() == 0 {
+    let (first, rest) = line.split_at(word_length(line));
+    if first != b"%%MatrixMarket".as_slice() {
         return false;
     }
-    if is_blank(line[0]) {
-        return false;
-    }
-    let WordRead::Right(next) = read_word(line, 0, b"%%MatrixMarket", true) else {
-        return false;
-    };
-    are_words(line, next)
+    are_words(rest)
 }
 
-// The first line.
-pub fn read_banner(text: &[u8]) -> BannerRead
+// The first line: where the second begins, if it is the banner.
+pub fn read_banner(text: &[u8]) -> Option<usize>
     ensures { ReadsBanner text.now result }
 {
-    if text.len() == 0 {
-        return BannerRead {
-            is_right: false,
-            next: 0,
-        };
-    }
     let end = line_end(text, 0);
-    let is_right = is_banner(&text[..end]);
-    let next = next_line(text, end);
-    BannerRead { is_right, next }
+    if !is_banner(&text[..end]) {
+        return None;
+    }
+    Some(next_line(text, end))
 }

@@ -15,7 +15,7 @@ use Rattle.market.proofs.Right.{Right, Distinct, body-right, fresh_distinct}
 use Rattle.mirrored.proofs.Sizes.{placed-size}
 use Rattle.matrix_market.specs.Said.{Tests, entries_at}
 use Rattle.matrix_market.specs.declared.Tested.{Tested}
-use Rattle.matrix_market.specs.declared.Tested.TheVariants as T
+use Rattle.std.specs.Prelude.{Result, Ok, Err}
 
 -- ---- a right body
 
@@ -36,11 +36,11 @@ module _ (text : List ℕ) (from n m k : ℕ) (s : Stop) (is : s ≡ scan_from n
   body_is : body n m [] k (kinds_at text from) ≡ read_by n s again (entries_in (kinds_at text from))
   body_is = rw (rep, is) (by_parts n m [] 0 0 k (kinds_at text from) refl)
 
-  pub tested_again : again < s.line → Tests (body n m [] k (kinds_at text from)) text (T.Wrong again)
+  pub tested_again : again < s.line → Tests (body n m [] k (kinds_at text from)) text (Err again)
   unfolding read_by
   tested_again h = record { is = body_is ∙ rw (lt-ltb again s.line h) refl; counted = tt }
 
-  pub tested_wrong : s.line ≤ again → s.right ≡ false → Tests (body n m [] k (kinds_at text from)) text (T.Wrong s.line)
+  pub tested_wrong : s.line ≤ again → s.right ≡ false → Tests (body n m [] k (kinds_at text from)) text (Err s.line)
   unfolding read_by
   tested_wrong h p = record { is = body_is ∙ rw (le-ltb again s.line h, p) refl; counted = tt }
 
@@ -49,7 +49,7 @@ module _ (text : List ℕ) (from n m k : ℕ) (s : Stop) (is : s ≡ scan_from n
   body-right-is h p = body_is ∙ rw (le-ltb again s.line h, p) refl
 
   pub tested_right : s.line ≤ again → s.right ≡ true → from ≤ length text → s.entries ≤ length text → s.doubles ≤ s.entries
-      → Tests (body n m [] k (kinds_at text from)) text (T.Right n from s.entries s.doubles)
+      → Tests (body n m [] k (kinds_at text from)) text (Ok (record { n = n; at = from; entries = s.entries; doubles = s.doubles }))
   tested_right h p w few doubled =
       let b = body-right-is h p in
       record {
@@ -64,6 +64,6 @@ module _ (text : List ℕ) (from n m k : ℕ) (s : Stop) (is : s ≡ scan_from n
 
 -- ---- the whole text
 
-pub whole-text : (text : List ℕ) (h : Head) (r : Tested) → head_of (lines_of text) ≡ h → Tests (on_head h) text r → Tests (read_market text) text r
+pub whole-text : (text : List ℕ) (h : Head) (r : Result Tested ℕ) → head_of (lines_of text) ≡ h → Tests (on_head h) text r → Tests (read_market text) text r
 unfolding read_market
 whole-text text h r p t = record { is = ap on_head p ∙ t.is; counted = t.counted }

@@ -1,5 +1,5 @@
 -- The crate's own types as the definitions have them, and what its inner functions ask and answer. Definitions only.
-use Rattle.std.specs.Prelude.{List, [], ◌≡◌, ℕ, ◌+◌, ◌≤◌, Float, length}
+use Rattle.std.specs.Prelude.{List, [], ◌≡◌, ℕ, ◌+◌, ◌≤◌, Result, Ok, Err, Float, length}
 use Rattle.definition.specs.Numbers.{rows_most, entries_most}
 use Rattle.input.specs.Said.{verdict_of}
 use Rattle.lines.specs.Kinds.{kinds_at}
@@ -10,7 +10,6 @@ use Rattle.matrix_market.specs.Outcome.{Outcome, outcome, Room, room}
 use Rattle.matrix_market.specs.declared.MarketRead.{MarketRead}
 use Rattle.matrix_market.specs.declared.MarketSizes.{MarketSizes}
 use Rattle.matrix_market.specs.declared.Tested.{Tested}
-use Rattle.matrix_market.specs.declared.Tested.TheVariants as T
 
 abbrev pub outcome_in : MarketRead → List ℕ → List ℕ → List Float → Outcome
 outcome_in r starts columns values = outcome (verdict_of r.verdict) r.rows r.entries starts columns values
@@ -23,9 +22,9 @@ abbrev pub entries_at : List ℕ → ℕ → List Entry
 entries_at text at = entries_in (kinds_at text at)
 
 -- what a text was found to be
-abbrev pub read_told : List ℕ → Tested → Read
-read_told text (T.Right n at entries doubles) = market n (entries_at text at)
-read_told text (T.Wrong k) = fault k
+abbrev pub read_told : List ℕ → Result Tested ℕ → Read
+read_told text (Ok t) = market t.n (entries_at text t.at)
+read_told text (Err k) = fault k
 
 -- a right text, with its entries behind `at`
 pub record Behind (text : List ℕ) (n at : ℕ) : Type 0 where
@@ -40,11 +39,11 @@ pub record Counted (text : List ℕ) (n at entries doubles : ℕ) : Type 0 where
   pub few : entries ≤ length text
   pub doubled : doubles ≤ entries
 
-abbrev pub CountedBy : List ℕ → Tested → Type 0
-CountedBy text (T.Right n at entries doubles) = Counted text n at entries doubles
-CountedBy text (T.Wrong k) = Unit
+abbrev pub CountedBy : List ℕ → Result Tested ℕ → Type 0
+CountedBy text (Ok t) = Counted text t.n t.at t.entries t.doubles
+CountedBy text (Err k) = Unit
 
-pub record Tests (read : Read) (text : List ℕ) (r : Tested) : Type 0 where
+pub record Tests (read : Read) (text : List ℕ) (r : Result Tested ℕ) : Type 0 where
   pub is : read ≡ read_told text r
   pub counted : CountedBy text r
 

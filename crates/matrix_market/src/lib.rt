@@ -15,7 +15,6 @@ ghost use Rattle.matrix_market.specs.Outcome.{outcome_of, room_of, room_for, tes
 ghost use Rattle.matrix_market.specs.Said.{outcome_in, room_in, entries_at, Tests, Counted, Ready, Placed};
 
 use input::{SpectralParams, Verdict};
-use scanning::HeadRead;
 
 // A refusal, or none, with the rows and the entries as placed; zeros with a refusal.
 #[repr(C)]
@@ -35,16 +34,13 @@ pub struct MarketSizes {
     pub entries: usize,
 }
 
-// Rows, the place behind the size line, the entries and those of them off the diagonal; or the line at fault.
+// Rows, the place behind the size line, the entries and those of them off the diagonal.
 #[derive(Drop)]
-enum Tested {
-    Right {
-        n: u64,
-        at: usize,
-        entries: usize,
-        doubles: usize,
-    },
-    Wrong(u64),
+struct Tested {
+    n: u64,
+    at: usize,
+    entries: usize,
+    doubles: usize,
 }
 
 // ---- the text
@@ -60,9 +56,9 @@ fn repeat_line(text: &[u8], from: usize, first: u64, limit: u64, rising: bool) -
     repeated::first_repeat(text, from, first, limit)
 }
 
-// What stands behind the size line.
+// What stands behind the size line; or the line at fault.
 #[tactic(auto, using(crate::proofs::Bodies::tested_again, crate::proofs::Bodies::tested_wrong))]
-fn test_body(text: &[u8], from: usize, first: u64, n: u64, m: u64) -> Tested
+fn test_body(text: &[u8], from: usize, first: u64, n: u64, m: u64) -> Result<Tested, u64>
     requires { Place text.now from first }
     ensures { Tests (body n m [] first (kinds_at text.now from)) text.now result }
 {
@@ -70,27 +66,25 @@ fn test_body(text: &[u8], from: usize, first: u64, n: u64, m: u64) -> Tested
     let limit = scanned.line;
     let again = repeat_line(text, from, first, limit, scanned.rising);
     if again < limit {
-        return Tested::Wrong(again);
+        return Err(again);
     }
     if !scanned.is_right {
-        return Tested::Wrong(limit);
+        return Err(limit);
     }
-    Tested::Right {
+    Ok(Tested {
         n,
         at: from,
         entries: scanned.entries,
         doubles: scanned.doubles,
-    }
+    })
 }
 
 // Which file the text is, or the first line at fault.
-fn test_text(text: &[u8]) -> Tested
+fn test_text(text: &[u8]) -> Result<Tested, u64>
     ensures { Tests (read_market text.now) text.now result }
 {
-    match scanning::read_head(text) {
-        HeadRead::Found { n, m, at, line } => test_body(text, at, line, n, m),
-        HeadRead::Wrong(line) => Tested::Wrong(line),
-    }
+    let head = scanning::read_head(text)?;
+    test_body(text, head.at, head.line, head.n, head.m)
 }
 
 // ---- the sizes
@@ -156,9 +150,7 @@ fn fill_ones(count: usize, values: &mut [f64])
     requires { count ≤ length values.old }
     ensures { values.new ≡ fill_range 0 count (λ p. one) values.old }
 {
-    for i in 0..count {
-        values[i] = 1.0;
-    }
+    values[..count].fill(1.0);
 }
 
 // The entries behind `from` as a graph.
@@ -224,15 +216,17 @@ pub fn read_matrix_market(
         ≡ outcome_of (read_market text.now) starts.old columns.old values.old }
 {
     match test_text(text) {
-        Tested::Right {
-            n,
-            at,
-            entries,
-            doubles,
-        } => read_right(
-            text, at, n as usize, entries, doubles, starts, columns, values,
+        Ok(t) => read_right(
+            text,
+            t.at,
+            t.n as usize,
+            t.entries,
+            t.doubles,
+            starts,
+            columns,
+            values,
         ),
-        Tested::Wrong(line) => refused(verdict(19, line)),
+        Err(line) => refused(verdict(19, line)),
     }
 }
 
@@ -278,12 +272,7 @@ pub fn matrix_market_sizes(text: &[u8]) -> MarketSizes
     ensures { room_in result ≡ room_of (head_of (lines_of text.now)) }
 {
     match scanning::read_head(text) {
-        HeadRead::Found {
-            n,
-            m,
-            at: _,
-            line: _,
-        } => sizes_of(n as usize, m as usize),
-        HeadRead::Wrong(line) => no_sizes(verdict(19, line)),
+        Ok(head) => sizes_of(head.n as usize, head.m as usize),
+        Err(line) => no_sizes(verdict(19, line)),
     }
 }

@@ -65,9 +65,7 @@ fn clear(links: &mut [u16], heads: &mut [u16])
     ensures { Clears links.new heads.new }
 {
     links[0] = 0;
-    for h in 0..PLACES {
-        heads[h] = 0;
-    }
+    heads.fill(0);
 }
 
 // Whether this key may be stored: where it is not, no entry has it. Place 0 is looked at as others are, so that the ways part seldom.
@@ -104,10 +102,7 @@ fn store(key: u64, count: usize, keys: &mut [u64], links: &mut [u16], heads: &mu
 fn is_pair(a: u64, b: u64, row: u64, column: u64) -> bool
     ensures { result ≡ (eqb a row && eqb b column) }
 {
-    if a == row {
-        return b == column;
-    }
-    false
+    (a, b) == (row, column)
 }
 
 // Whether an entry is one of the first `count` from `from` on, which are read again.
@@ -312,8 +307,8 @@ pub fn first_repeat(text: &[u8], from: usize, first: u64, limit: u64) -> u64
     requires { (from ≤ length text.now) × (first ≤ from) }
     ensures { result ≡ repeat_from [] first limit (kinds_at text.now from) }
 {
-    let mut keys = [0u64; 32768];
-    let mut links = [0u16; 32768];
-    let mut heads = [0u16; 32768];
+    let mut keys = [0u64; PLACES];
+    let mut links = [0u16; PLACES];
+    let mut heads = [0u16; PLACES];
     by_blocks(text, from, first, limit, &mut keys, &mut links, &mut heads)
 }

@@ -9,7 +9,9 @@ use native.Mathlib.Omega.{arith}
 use denote.Enum.Declared
 use types.Run.{OneOf}
 use lib.ListN.{length}
+use Rattle.digits.proofs.Bytes.{lt_or_ge}
 use Rattle.lines.proofs.Ends.{kinds_end}
+use Rattle.lines.specs.Banner.{is_banner}
 use Rattle.lines.specs.contracts.Kind as KindOf
 use Rattle.lines.specs.Lines.{lines_of}
 use Rattle.lines.specs.Kinds.{kinds_at}
@@ -17,12 +19,11 @@ use Rattle.lines.specs.Read.{ReadsLine, ReadsBanner}
 use Rattle.lines.specs.declared.Kind.{Kind}
 use Rattle.lines.specs.declared.Kind.TheVariants as K
 use Rattle.lines.specs.declared.LineRead.{LineRead}
-use Rattle.lines.specs.declared.BannerRead.{BannerRead}
 use Rattle.market.specs.Market.{sized, wrong, head_from, head_of, right_size}
 use Rattle.scanning.specs.Said.{Place, ReadsHead}
 use Rattle.scanning.specs.Inner.{FindsSize}
 use Rattle.scanning.specs.declared.HeadRead.{HeadRead}
-use Rattle.scanning.specs.declared.HeadRead.TheVariants as H
+use Rattle.std.specs.Prelude.{Option, Some, None, Result, Ok, Err}
 
 -- which of its variants a kind is, counted from 0: what an arm of a `match` with several knows
 abbrev pub variant : Kind → ℕ
@@ -65,7 +66,7 @@ pub record Finding (text : List ℕ) (from at line : ℕ) : Type 0 where
   pub line_low : line ≤ at
 
 module _ (text : List ℕ) (from at line : ℕ) (f : Finding text from at line) where
-  pub find_end : length text ≤ at → FindsSize text from (H.Wrong line)
+  pub find_end : length text ≤ at → FindsSize text from (Err line)
   find_end h = record {
     is = f.is ∙ ap (head_from line) (kinds_end text at h) ∙ head_end_lem line;
     within = omega arith;
@@ -83,7 +84,7 @@ module _ (text : List ℕ) (from at line : ℕ) (f : Finding text from at line) 
       line_low = omega (arith, reads.on, f.line_low);
     }
 
-    pub find_off : OneOf (2 ∷ 4 ∷ []) (variant r.kind) → FindsSize text from (H.Wrong line)
+    pub find_off : OneOf (2 ∷ 4 ∷ []) (variant r.kind) → FindsSize text from (Err line)
     find_off t = record {
       is = behind ∙ head_off line r.kind (kinds_at text r.next) t;
       within = omega arith;
@@ -97,36 +98,60 @@ module _ (text : List ℕ) (from at line : ℕ) (f : Finding text from at line) 
           behind ∙ ap (λ (k : Kind). head_from line (k ∷ kinds_at text r.next)) is-size
           ∙ head-size line a c m (kinds_at text r.next) b e
 
-      pub find_size : true ≡ right_size a c m → FindsSize text from (H.Found a m r.next (line + 1))
+      pub find_size : true ≡ right_size a c m → FindsSize text from (Ok (record { n = a; m = m; at = r.next; line = line + 1 }))
       find_size e = record {
         is = size_told true e ∙ ap (λ (k : ℕ). sized a m k (kinds_at text r.next)) (sym (add-one line));
         within = reads.within;
         line = omega (arith, reads.on, f.line_low);
       }
 
-      pub find_wrong : false ≡ right_size a c m → FindsSize text from (H.Wrong line)
+      pub find_wrong : false ≡ right_size a c m → FindsSize text from (Err line)
       find_wrong e = record { is = size_told false e; within = omega arith; line = omega arith }
 
 -- ---- the banner
 
-pub head_empty : (text : List ℕ) → length text ≡ 0 → ReadsHead text (H.Wrong 1)
+head_empty : (text : List ℕ) → length text ≡ 0 → head_of (lines_of text) ≡ wrong 1
 unfolding lines_of head_of
-head_empty [] h = record { is = refl; within = omega arith; line = omega arith }
+head_empty [] h = refl
 head_empty (b ∷ bs) h = absurd (omega arith)
 
-module _ (text : List ℕ) (b : BannerRead) (some : 1 ≤ length text) (reads : ReadsBanner text b) where
-  head_told_lem : (t : Bool) → b.is_right ≡ t → head_of (lines_of text) ≡ cond t (head_from 2 (kinds_at text b.next)) (wrong 1)
+module _ (text : List ℕ) where
+  -- by the first line, where there is one
+  head_told_lem : (r : Option ℕ) (b : ReadsBanner text r) → 1 ≤ length text → (t : Bool) → is_banner b.line ≡ t
+      → head_of (lines_of text) ≡ cond t (head_from 2 (kinds_at text b.next)) (wrong 1)
   unfolding head_of
-  head_told_lem t e =
-      ap head_of (reads.lines some)
-      ∙ ap (λ (u : Bool). cond u (head_from 2 (kinds_at text b.next)) (wrong 1)) (sym reads.right ∙ e)
+  head_told_lem r b some t e = ap head_of (b.lines some) ∙ ap (λ (u : Bool). cond u (head_from 2 (kinds_at text b.next)) (wrong 1)) e
 
-  pub head-wrong : b.is_right ≡ false → ReadsHead text (H.Wrong 1)
-  head-wrong e = record { is = head_told_lem false e; within = omega arith; line = omega arith }
+  no_line : (b : ReadsBanner text None) → is_banner b.line ≡ false
+  no_line b = go (is_banner b.line) b.right
+    where
+      go : (t : Bool) → None ≡ cond t (Some b.next) None → t ≡ false
+      go true e = absurd cc
+      go false e = refl
 
-  module _ (right : b.is_right ≡ true) where
-    pub head-place : Place text b.next 2
-    head-place = record { within = reads.within; line = reads.on (sym reads.right ∙ right) }
+  pub head-wrong : ReadsBanner text None → ReadsHead text (Err 1)
+  head-wrong b = record {
+    is = ⊎_elim (λ h. head_told_lem None b h false (no_line b)) (λ h. head_empty text (omega arith)) (lt_or_ge 0 (length text));
+    within = omega arith;
+    line = omega arith;
+  }
 
-    pub head-right : (r : HeadRead) → FindsSize text b.next r → ReadsHead text r
-    head-right r f = record { is = head_told_lem true right ∙ f.is; within = f.within; line = f.line }
+  module _ (next : ℕ) (b : ReadsBanner text (Some next)) where
+    its_line : (is_banner b.line ≡ true) × (b.next ≡ next)
+    its_line = go (is_banner b.line) b.right
+      where
+        go : (t : Bool) → Some next ≡ cond t (Some b.next) None → (t ≡ true) × (b.next ≡ next)
+        go true e = (refl, cc)
+        go false e = absurd cc
+
+    pub head-place : Place text next 2
+    head-place = let on : 2 ≤ b.next = b.on its_line.0 in record { within = omega (arith, its_line.1, b.within); line = omega (arith, its_line.1) }
+
+    pub head-right : (r : Result HeadRead ℕ) → FindsSize text next r → ReadsHead text r
+    head-right r f =
+        let on : 2 ≤ b.next = b.on its_line.0 in
+        record {
+          is = head_told_lem (Some next) b (omega (arith, b.within)) true its_line.0 ∙ ap (λ (n : ℕ). head_from 2 (kinds_at text n)) its_line.1 ∙ f.is;
+          within = f.within;
+          line = f.line;
+        }

@@ -1,6 +1,5 @@
 -- Laws for the proofs of this crate's functions.
 pub mod Sizes
 pub mod Heads
-pub mod Inside
 pub mod Rising
 pub mod Steps

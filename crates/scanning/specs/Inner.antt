@@ -1,5 +1,5 @@
 -- What the inner functions answer. Definitions only.
-use Rattle.std.specs.Prelude.{Bool, cond, ◌&&◌, ◌||◌, List, ◌≡◌, ℕ, suc, ◌≤◌, eqb, ltb, length}
+use Rattle.std.specs.Prelude.{Bool, cond, ◌&&◌, ◌||◌, List, ◌≡◌, ℕ, suc, ◌≤◌, Result, eqb, ltb, length}
 use Rattle.lines.specs.Kinds.{kinds_at}
 use Rattle.market.specs.Market.{head_from}
 use Rattle.market.specs.Passes.{doubles_with}
@@ -9,7 +9,7 @@ use Rattle.scanning.specs.declared.Passed.{Passed}
 use Rattle.scanning.specs.declared.Scanned.{Scanned}
 
 -- from line 2, which begins at `from`, up to the size line
-pub record FindsSize (text : List ℕ) (from : ℕ) (r : HeadRead) : Type 0 where
+pub record FindsSize (text : List ℕ) (from : ℕ) (r : Result HeadRead ℕ) : Type 0 where
   pub is : head_from 2 (kinds_at text from) ≡ head_told text r
   pub within : end_told r ≤ length text
   pub line : line_told r ≤ end_told r

@@ -1,27 +1,26 @@
 -- What the scans answer. Definitions only.
-use Rattle.std.specs.Prelude.{true, List, [], ◌≡◌, ℕ, ◌≤◌, length}
+use Rattle.std.specs.Prelude.{true, List, [], ◌≡◌, ℕ, ◌≤◌, Result, Ok, Err, length}
 use Rattle.lines.specs.Lines.{lines_of}
 use Rattle.lines.specs.Kinds.{kinds_at}
 use Rattle.market.specs.Market.{Head, sized, wrong, head_of}
 use Rattle.market.specs.Passes.{Stop, stop, scan_from, repeat_from}
 use Rattle.scanning.specs.declared.HeadRead.{HeadRead}
-use Rattle.scanning.specs.declared.HeadRead.TheVariants as H
 use Rattle.scanning.specs.declared.Scanned.{Scanned}
 
 -- the head that an answer tells of, the place behind its size line, and the number of the line there
-abbrev pub head_told : List ℕ → HeadRead → Head
-head_told text (H.Found n m at line) = sized n m line (kinds_at text at)
-head_told text (H.Wrong k) = wrong k
+abbrev pub head_told : List ℕ → Result HeadRead ℕ → Head
+head_told text (Ok h) = sized h.n h.m h.line (kinds_at text h.at)
+head_told text (Err k) = wrong k
 
-abbrev pub end_told : HeadRead → ℕ
-end_told (H.Found n m at line) = at
-end_told (H.Wrong k) = 0
+abbrev pub end_told : Result HeadRead ℕ → ℕ
+end_told (Ok h) = h.at
+end_told (Err k) = 0
 
-abbrev pub line_told : HeadRead → ℕ
-line_told (H.Found n m at line) = line
-line_told (H.Wrong k) = 0
+abbrev pub line_told : Result HeadRead ℕ → ℕ
+line_told (Ok h) = h.line
+line_told (Err k) = 0
 
-pub record ReadsHead (text : List ℕ) (r : HeadRead) : Type 0 where
+pub record ReadsHead (text : List ℕ) (r : Result HeadRead ℕ) : Type 0 where
   pub is : head_of (lines_of text) ≡ head_told text r
   pub within : end_told r ≤ length text
   pub line : line_told r ≤ end_told r

@@ -8,20 +8,18 @@ ghost use Rattle.scanning.specs.Inner.{FindsSize, is_before, Few, WithEntry, Sto
 
 use lines::Kind;
 
-// Rows, entries, and the place and the number of the line behind the size line; or the line at fault.
+// Rows, entries, and the place and the number of the line behind the size line.
 #[derive(Drop)]
-pub enum HeadRead {
-    Found {
-        n: u64,
-        m: u64,
-        at: usize,
-        line: u64,
-    },
-    Wrong(u64),
+pub struct HeadRead {
+    pub n: u64,
+    pub m: u64,
+    pub at: usize,
+    pub line: u64,
 }
 
 // Whether all is right but for repeats, the line at fault or the one behind the last, the entries before it and those of them off the
-// diagonal, and whether they stand in strictly rising order, by row and column or by column and row.
+// diagonal, and whether they stand in strictly rising order, by row and column or by column and row. A flag and no Result: of a text that is
+// wrong all of it is told too (`Scans`), and the line serves either way, as the one up to which repeats are looked for.
 #[derive(Drop)]
 pub struct Scanned {
     pub is_right: bool,
@@ -58,8 +56,8 @@ fn right_size(rows: u64, columns: u64, entries: u64) -> bool
     fits(entries, rows, half + 1)
 }
 
-// From line 2, which begins at `from`, up to the size line.
-fn size_from(text: &[u8], from: usize) -> HeadRead
+// From line 2, which begins at `from`, up to the size line; or the line at fault.
+fn size_from(text: &[u8], from: usize) -> Result<HeadRead, u64>
     requires { Place text.now from 2 }
     ensures { FindsSize text.now from result }
 {
@@ -67,43 +65,36 @@ fn size_from(text: &[u8], from: usize) -> HeadRead
     let mut line = 2;
     while at < text.len() {
         let read = lines::read_line(text, at);
-        let kind = read.kind;
-        let next = read.next;
-        match kind {
+        match read.kind {
             Kind::Blank | Kind::Comment => {
-                at = next;
+                at = read.next;
                 line += 1;
             }
             Kind::Size(r, c, m) => {
-                if right_size(r, c, m) {
-                    return HeadRead::Found {
-                        n: r,
-                        m,
-                        at: next,
-                        line: line + 1,
-                    };
+                if !right_size(r, c, m) {
+                    return Err(line);
                 }
-                return HeadRead::Wrong(line);
+                return Ok(HeadRead {
+                    n: r,
+                    m,
+                    at: read.next,
+                    line: line + 1,
+                });
             }
-            Kind::Entry(_, _) | Kind::Other => return HeadRead::Wrong(line),
+            Kind::Entry(_, _) | Kind::Other => return Err(line),
         }
     }
-    HeadRead::Wrong(line)
+    Err(line)
 }
 
-// Up to the size line.
-pub fn read_head(text: &[u8]) -> HeadRead
+// Up to the size line; or the line at fault.
+pub fn read_head(text: &[u8]) -> Result<HeadRead, u64>
     ensures { ReadsHead text.now result }
 {
-    if text.len() == 0 {
-        return HeadRead::Wrong(1);
+    match lines::read_banner(text) {
+        Some(next) => size_from(text, next),
+        None => Err(1),
     }
-    let banner = lines::read_banner(text);
-    let next = banner.next;
-    if banner.is_right {
-        return size_from(text, next);
-    }
-    HeadRead::Wrong(1)
 }
 
 // The entries so far: how many, how many of them off the diagonal, the last one (0 and 0 before the first, which is greater, as rows and
@@ -122,10 +113,7 @@ struct Passed {
 fn is_before(a: u64, b: u64, c: u64, d: u64) -> bool
     ensures { result ≡ is_before a b c d }
 {
-    if a == c {
-        return b < d;
-    }
-    a < c
+    (a, b) < (c, d)
 }
 
 // Whether one more entry of the m is to come, and this one is in the lower triangle of n rows.
@@ -133,16 +121,7 @@ fn is_before(a: u64, b: u64, c: u64, d: u64) -> bool
 fn is_inside(n: u64, m: u64, entries: usize, r: u64, c: u64) -> bool
     ensures { result ≡ inside n m entries r c }
 {
-    if m <= entries as u64 {
-        return false;
-    }
-    if c < 1 {
-        return false;
-    }
-    if r < c {
-        return false;
-    }
-    r <= n
+    (entries as u64) < m && 1 <= c && c <= r && r <= n
 }
 
 // The entries with one more.
@@ -152,10 +131,11 @@ fn with_entry(passed: Passed, r: u64, c: u64) -> Passed
 {
     let a = passed.row;
     let b = passed.column;
-    let mut doubles = passed.doubles;
-    if r != c {
-        doubles += 1;
-    }
+    let doubles = if r != c {
+        passed.doubles + 1
+    } else {
+        passed.doubles
+    };
     Passed {
         entries: passed.entries + 1,
         doubles,
@@ -196,11 +176,9 @@ pub fn scan(text: &[u8], from: usize, first: u64, n: u64, m: u64) -> Scanned
     };
     while at < text.len() {
         let read = lines::read_line(text, at);
-        let kind = read.kind;
-        let next = read.next;
-        match kind {
+        match read.kind {
             Kind::Blank => {
-                at = next;
+                at = read.next;
                 line += 1;
             }
             Kind::Entry(r, c) => {
@@ -209,7 +187,7 @@ pub fn scan(text: &[u8], from: usize, first: u64, n: u64, m: u64) -> Scanned
                     return stopped(passed, false, line);
                 }
                 passed = with_entry(passed, r, c);
-                at = next;
+                at = read.next;
                 line += 1;
             }
             Kind::Comment | Kind::Size(_, _, _) | Kind::Other => {
@@ -217,6 +195,6 @@ pub fn scan(text: &[u8], from: usize, first: u64, n: u64, m: u64) -> Scanned
             }
         }
     }
-    let entries = passed.entries;
-    stopped(passed, entries as u64 == m, line)
+    let is_right = passed.entries as u64 == m;
+    stopped(passed, is_right, line)
 }

@@ -1,10 +1,6 @@
-use mathlib.Core.Path.{sym}
-use native.Mathlib.Omega.{arith}
-use Rattle.lines.proofs.Ends.{begins-at, begins_end}
+use mathlib.Core.Path.{◌∙◌}
+use Rattle.lines.proofs.Words.{begins_with}
 use Rattle.lines.proofs.begins_comment.Goals as goal
 
-pub returns-then-line-eq0 : goal.returns-then-line-eq0
-returns-then-line-eq0 c = sym (begins_end 37 c.args.line.now 0 (omega arith))
-
 pub returns : goal.returns
-returns c = sym (begins-at 37 c.args.line.now 0 (omega arith))
+returns c = c.starts_with.ensures.value ∙ begins_with 37 _

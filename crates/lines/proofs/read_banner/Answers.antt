@@ -1,18 +1,23 @@
-use mathlib.Core.Path.{sym}
+use mathlib.Core.Path.{refl, sym, ap, ◌∙◌}
+use mathlib.Core.Bool.{true, false}
 use native.Mathlib.Omega.{arith}
 use lib.Seq.{length-take-le}
-use Rattle.lines.proofs.Ends.{line-within, line_off}
-use Rattle.lines.proofs.Banners.{read_none, read_first}
+use Rattle.std.specs.Prelude.{Some, None}
+use Rattle.lines.proofs.Runs.{at_most, at_end}
+use Rattle.lines.proofs.Ends.{goes_nil}
+use Rattle.lines.specs.Parts.{line_goes_on}
+use Rattle.lines.proofs.Banners.{read_first}
 use Rattle.lines.proofs.read_banner.Goals as goal
 
-pub returns-then-text-eq0 : goal.returns-then-text-eq0
-returns-then-text-eq0 c = read_none _ c.if-text-eq0.true
-
 pub slice_bounds-is_banner-end : goal.slice_bounds-is_banner-end
-slice_bounds-is_banner-end c = sym (length-take-le _ _ (line-within _ 0 _ (omega arith) c.line_end-end.ensures))
+slice_bounds-is_banner-end c = sym (length-take-le _ _ (omega (arith, c.line_end-end.ensures, at_most line_goes_on c.args.text.now 0 (omega arith))))
 
-pub next_line-next-requires : goal.next_line-next-requires
-next_line-next-requires c = (line-within _ 0 _ (omega arith) c.line_end-end.ensures, line_off _ 0 _ (omega arith) c.line_end-end.ensures)
+pub returns-then-not-is_banner : goal.returns-then-not-is_banner
+returns-then-not-is_banner c = read_first _ _ _ c.line_end-end.ensures false refl (sym c.if-not-is_banner.true ∙ c.is_banner.ensures)
+
+pub next_line-requires : goal.next_line-requires
+next_line-requires c =
+    (omega (arith, c.line_end-end.ensures, at_most line_goes_on c.args.text.now 0 (omega arith)), at_end line_goes_on c.args.text.now 0 _ c.line_end-end.ensures goes_nil)
 
 pub returns : goal.returns
-returns c = read_first _ _ _ _ (omega arith) c.line_end-end.ensures c.next_line-next.ensures c.is_banner-is_right.ensures
+returns c = read_first _ _ _ c.line_end-end.ensures true c.next_line.ensures (sym c.if-not-is_banner.false ∙ c.is_banner.ensures)

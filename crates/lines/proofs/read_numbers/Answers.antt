@@ -1,16 +1,41 @@
--- each way out is a case of `kind_with`.
-use mathlib.Core.Path.{◌∙◌}
-use mathlib.Core.List.{[]}
-use Rattle.lines.proofs.Numbers.{found_of, none_of, wrong_of, kind_start, kind_found, kind_blank, kind_wrong}
+-- each way out is a case of `numbers_in`.
+use mathlib.Core.Path.{sym, ◌∙◌}
+use mathlib.Core.List.{List, [], ◌∷◌}
+use Rattle.lines.proofs.Numbers.{says-nothing, first-wrong, says-one, second-wrong, says-entry, third-wrong, says-more, says-size}
 use Rattle.lines.proofs.read_numbers.Goals as goal
 
-pub returns-in-Found : goal.returns-in-Found
-returns-in-Found c =
-    let f = found_of _ _ _ c.next_number.ensures _ _ c.in-Found.is in
-    c.after_one.ensures f.word f.is ∙ kind_found [] _ _ _ _ f ∙ kind_start _
+pub returns-in_default : goal.returns-in_default
+returns-in_default c = says-nothing _ c.in_default.ensures
+
+pub returns-in_err-row : goal.returns-in_err-row
+returns-in_err-row c =
+    rw c.from_residual.ensures (first-wrong _ _ _ c.in-Some.ensures c.in_err-row.ensures)
+
+pub returns-in_err-word : goal.returns-in_err-word
+returns-in_err-word c =
+    rw c.from_residual-in_err-word.ensures (says-one _ _ _ c.in-Some.ensures c.in_err-word.ensures)
+
+pub returns-in_err-column : goal.returns-in_err-column
+returns-in_err-column c =
+    rw c.from_residual-in_err-column.ensures
+    (second-wrong _ _ _ c.in-Some.ensures _ c.in_ok-row.ensures _ _ c.in_ok-word.ensures c.in_err-column.ensures)
+
+pub returns-in_default-next_word : goal.returns-in_default-next_word
+returns-in_default-next_word c =
+    says-entry _ _ _ c.in-Some.ensures _ c.in_ok-row.ensures _ _ c.in_ok-word.ensures _ c.in_ok-column.ensures c.in_default-next_word.ensures
+
+pub returns-in_err-entries : goal.returns-in_err-entries
+returns-in_err-entries c =
+    rw c.from_residual-in_err-entries.ensures
+    (third-wrong _ _ _ c.in-Some.ensures _ c.in_ok-row.ensures _ _ c.in_ok-word.ensures _ c.in_ok-column.ensures _ _ c.in-Some-next_word.ensures
+    c.in_err-entries.ensures)
+
+pub returns-in-Some-next_word-2 : goal.returns-in-Some-next_word-2
+returns-in-Some-next_word-2 c =
+    says-more _ _ _ c.in-Some.ensures _ c.in_ok-row.ensures _ _ c.in_ok-word.ensures _ c.in_ok-column.ensures _ _ c.in-Some-next_word.ensures
+    _ _ c.in-Some-next_word-2.ensures
 
 pub returns-in-None : goal.returns-in-None
-returns-in-None c = kind_blank _ (none_of _ _ _ c.next_number.ensures c.in-None.is) ∙ kind_start _
-
-pub returns-in-Wrong : goal.returns-in-Wrong
-returns-in-Wrong c = kind_wrong [] _ (wrong_of _ _ _ c.next_number.ensures c.in-Wrong.is) ∙ kind_start _
+returns-in-None c =
+    says-size _ _ _ c.in-Some.ensures _ c.in_ok-row.ensures _ _ c.in_ok-word.ensures _ c.in_ok-column.ensures _ _ c.in-Some-next_word.ensures
+    _ c.in_ok-entries.ensures c.in-None.ensures

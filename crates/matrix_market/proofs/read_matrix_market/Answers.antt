@@ -9,20 +9,18 @@ use Rattle.matrix_market.proofs.Outcomes.{out_fault}
 use Rattle.matrix_market.proofs.read_matrix_market.Goals as goal
 
 pub read_right-requires : goal.read_right-requires
-read_right-requires c = subst (CountedBy c.args.text.now) c.in-Right.is c.test_text.ensures.counted
+read_right-requires c = c.in-Ok.ensures.counted
 
-pub returns-in-Right : goal.returns-in-Right
-returns-in-Right c =
+pub returns-in-Ok : goal.returns-in-Ok
+returns-in-Ok c =
     let a = c.args in
-    let text = a.text.now in
     c.read_right.ensures
-    ∙ sym (ap (λ (r : Read). outcome_of r a.starts.now a.columns.now a.values.now) (c.test_text.ensures.is ∙ ap (read_told text) c.in-Right.is))
+    ∙ sym (ap (λ (r : Read). outcome_of r a.starts.now a.columns.now a.values.now) c.in-Ok.ensures.is)
 
-pub returns-in-Wrong : goal.returns-in-Wrong
-returns-in-Wrong c =
+pub returns-in-Err : goal.returns-in-Err
+returns-in-Err c =
     let a = c.args in
-    let text = a.text.now in
     ap (λ (x : MarketRead). outcome_in x a.starts.now a.columns.now a.values.now) c.refused.ensures
     ∙ ap (λ (v : Verdict). outcome (verdict_of v) 0 0 a.starts.now a.columns.now a.values.now) c.verdict.ensures
     ∙ out_fault _ a.starts.now a.columns.now a.values.now
-    ∙ sym (ap (λ (r : Read). outcome_of r a.starts.now a.columns.now a.values.now) (c.test_text.ensures.is ∙ ap (read_told text) c.in-Wrong.is))
+    ∙ sym (ap (λ (r : Read). outcome_of r a.starts.now a.columns.now a.values.now) c.in-Err.ensures.is)

@@ -1,27 +1,15 @@
-use mathlib.Core.Path.{refl, ap, subst, ◌∙◌}
-use Prim.Native.Nat.{◌≤◌}
-use lib.ListN.{length}
-use Rattle.scanning.specs.Said.{head_told, end_told, line_told}
-use Rattle.scanning.specs.declared.HeadRead.{HeadRead}
+use mathlib.Core.Path.{refl}
+use Rattle.std.proofs.lemmas.Result.{err_from_is_err_and}
 use Rattle.matrix_market.proofs.Bodies.{whole-text}
 use Rattle.matrix_market.proofs.test_text.Goals as goal
 
+pub returns-in_err-head : goal.returns-in_err-head
+returns-in_err-head c =
+    let p = err_from_is_err_and c.from_residual.result c.from_residual.ensures.1 in
+    rw (p.1, p.2) (whole-text c.args.text.now _ _ c.in_err-head.ensures.is (record { is = refl; counted = tt }))
+
 pub test_body-requires : goal.test_body-requires
-test_body-requires c =
-    let text = c.args.text.now in
-    let h = c.read_head in
-    let e = c.in-Found.is in
-    record {
-      within = subst (λ (r : HeadRead). end_told r ≤ length text) e h.ensures.within;
-      line = subst (λ (r : HeadRead). line_told r ≤ end_told r) e h.ensures.line;
-    }
+test_body-requires c = record { within = c.in_ok-head.ensures.within; line = c.in_ok-head.ensures.line }
 
-pub returns-in-Found : goal.returns-in-Found
-returns-in-Found c =
-    let text = c.args.text.now in
-    whole-text text _ _ (c.read_head.ensures.is ∙ ap (head_told text) c.in-Found.is) c.test_body.ensures
-
-pub returns-in-Wrong : goal.returns-in-Wrong
-returns-in-Wrong c =
-    let text = c.args.text.now in
-    whole-text text _ _ (c.read_head.ensures.is ∙ ap (head_told text) c.in-Wrong.is) (record { is = refl; counted = tt })
+pub returns : goal.returns
+returns c = whole-text c.args.text.now _ _ c.in_ok-head.ensures.is c.test_body.ensures

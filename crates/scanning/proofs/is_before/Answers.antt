@@ -1,8 +1,8 @@
-use Rattle.scanning.proofs.Rising.{before_same, before_other}
+use Rattle.std.proofs.lemmas.Bool.Decides.{nat_tests}
+use Rattle.scanning.specs.Inner.{is_before}
 use Rattle.scanning.proofs.is_before.Goals as goal
-
-pub returns-then-a-c : goal.returns-then-a-c
-returns-then-a-c c = before_same _ _ _ _ c.if-a-c.true
+use native.Mathlib.Omega.{arith}
 
 pub returns : goal.returns
-returns c = before_other _ _ _ _ c.if-a-c.false
+unfolding is_before
+returns c = grind (arith, nat_tests)

@@ -14,15 +14,15 @@ loop-at-preserved c =
     find_on _ _ _ _ c.loop-at.invariant _ c.read_line-read.ensures
     (⊎_elim (λ e. inl (ap variant e)) (λ e. inr (ap variant e)) c.in-Blank.is)
 
-pub returns-then-right_size : goal.returns-then-right_size
-returns-then-right_size c =
-    find_size _ _ _ _ c.loop-at.invariant _ c.read_line-read.ensures
-    _ _ _ c.in-Size.is (sym c.if-right_size.true ∙ c.right_size.ensures)
+pub returns-then-not-right_size : goal.returns-then-not-right_size
+returns-then-not-right_size c =
+    find_wrong _ _ _ _ c.loop-at.invariant _ c.read_line-read.ensures
+    _ _ _ c.in-Size.is (sym c.if-not-right_size.true ∙ c.right_size.ensures)
 
 pub returns-in-Size : goal.returns-in-Size
 returns-in-Size c =
-    find_wrong _ _ _ _ c.loop-at.invariant _ c.read_line-read.ensures
-    _ _ _ c.in-Size.is (sym c.if-right_size.false ∙ c.right_size.ensures)
+    find_size _ _ _ _ c.loop-at.invariant _ c.read_line-read.ensures
+    _ _ _ c.in-Size.is (sym c.if-not-right_size.false ∙ c.right_size.ensures)
 
 pub returns-in-Entry : goal.returns-in-Entry
 returns-in-Entry c =
