@@ -31,7 +31,7 @@ hex n = hex_of 16 n
 unfoldable pub is_digit : ℕ → Bool
 is_digit b = leb 48 b && leb b 57
 
--- the number of some decimal digits that follow on the some_number v
+-- the number of some decimal digits that follow on the number v
 unfoldable pub value_from : ℕ → List ℕ → ℕ
 value_from v [] = v
 value_from v (b ∷ bs) = value_from (v * 10 + (b - 48)) bs
@@ -44,7 +44,7 @@ is_hex b = is_digit b || (leb 97 b && leb b 102)
 unfoldable pub hex_value : ℕ → ℕ
 hex_value b = cond (leb b 57) (b - 48) (b - 87)
 
--- the number of some hex digits that follow on the some_number v
+-- the number of some hex digits that follow on the number v
 unfoldable pub hex_from : ℕ → List ℕ → ℕ
 hex_from v [] = v
 hex_from v (b ∷ bs) = hex_from (v * 16 + hex_value b) bs

@@ -11,8 +11,9 @@ use lib.Seq.{take-suc, take-suc-set, take_all}
 use Rattle.reading.specs.ReadLine.{Found, found, none}
 use Rattle.reading.specs.ReadRun.{padded, floats_of}
 use Rattle.reading.specs.Parts.{Reads}
-use Rattle.reading.specs.declared.ListRead.{ListRead}
-use Rattle.reading.specs.declared.ListRead.TheVariants as L
+use Rattle.std.specs.Prelude.{Option, Some, None}
+use Rattle.reading.specs.declared.Counted.{Counted}
+use Rattle.reading.proofs.Steps.{some_counted, same_counted}
 
 -- ---- zeros
 abbrev zeros : ℕ → List ℕ
@@ -40,30 +41,25 @@ pub record Taken (F : Found) (m count next : ℕ) (after : List ℕ) : Type 0 wh
   pub counted : count ≡ length numbers
   pub stored : after ≡ padded m numbers
 
-pub taken : (F : Found) (m : ℕ) (answer : ListRead) (after : List ℕ) (count next : ℕ) → Reads F (zeros m) answer after
-    → answer ≡ L.Found count next → Taken F m count next after
-taken (found vs n) m answer after count next s e =
-    let k : L.Found (length vs) n ≡ L.Found count next = sym s.answered ∙ e in
+pub taken : (F : Found) (m : ℕ) (answer : Option Counted) (after : List ℕ) (line : Counted) → Reads F (zeros m) answer after
+    → answer ≡ Some line → Taken F m line.count line.next after
+taken (found vs n) m answer after line s e =
+    let k = same_counted (length vs) n line.count line.next (sym s.answered ∙ e) in
     record {
       numbers = vs;
-      is = ap (found vs) (cc);
-      counted = cc;
+      is = ap (found vs) k.1;
+      counted = sym k.0;
       stored = s.numbers vs n refl ∙ ap (λ (l : List ℕ). vs ++ l) (drop-zeros (length vs) m);
     }
-taken none m answer after count next s e =
-    let k : L.Wrong ≡ L.Found count next = sym s.answered ∙ e in
+taken none m answer after line s e =
+    let k : None ≡ Some line = sym s.answered ∙ e in
     let z : ◌≡◌ {A = ℕ} 0 1 = cc in absurd (omega arith)
 
-pub not_taken : (F : Found) (out : List ℕ) (answer : ListRead) (after : List ℕ) → Reads F out answer after → answer ≡ L.Wrong → F ≡ none
+pub not_taken : (F : Found) (out : List ℕ) (answer : Option Counted) (after : List ℕ) → Reads F out answer after → answer ≡ None → F ≡ none
 not_taken (found vs n) out answer after s e =
-    let k : L.Found (length vs) n ≡ L.Wrong = sym s.answered ∙ e in
+    let k : some_counted (length vs) n ≡ None = sym s.answered ∙ e in
     let z : ◌≡◌ {A = ℕ} 0 1 = cc in absurd (omega arith)
 not_taken none out answer after s e = refl
-
--- what is no `Found` is `Wrong`
-pub not_found : (answer : ListRead) → ((count next : ℕ) → answer ≡ L.Found count next → ⊥) → answer ≡ L.Wrong
-not_found (L.Found count next) h = absurd (h count next refl)
-not_found L.Wrong h = refl
 
 -- ---- a copy, number by number
 pub copy_more : (source copy : List ℕ) (i : ℕ) → i < length source → i < length copy → take i copy ≡ take i source
