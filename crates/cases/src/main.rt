@@ -8,7 +8,6 @@
 
 ghost use Rattle.std.specs.Prelude.{◌≡◌, ◌+◌, ◌≤◌, length};
 
-use digits::Written;
 use std::io;
 use tally::Tally;
 
@@ -65,16 +64,9 @@ fn is_same(x: &[u8], y: &[u8]) -> bool {
 // Whether the run file has the stored answer.
 fn is_answered(run: &[u8], stored: &[u8]) -> bool {
     let mut out = [0u8; 8192];
-    let written = text::answer(run, &mut out);
-    match written {
-        Written::To(end) => {
-            if end <= 8192 {
-                is_same(&out[..end], stored)
-            } else {
-                false
-            }
-        }
-        Written::Short => false,
+    match text::answer(run, &mut out) {
+        Some(end) => end <= 8192 && is_same(&out[..end], stored),
+        None => false,
     }
 }
 

@@ -1,6 +1,6 @@
 // What a stored answer says. One of another form is read as something else, and so is not printed again as it was.
 use crate::lent;
-use digits::{Decimal, Hex};
+use digits::Number;
 use input::Verdict;
 use state::Counts;
 
@@ -20,13 +20,6 @@ pub struct Said {
     pub seed: [f64; 448],
 }
 
-// A number, and the place behind it.
-#[derive(Clone, Copy)]
-struct Number {
-    value: u64,
-    next: usize,
-}
-
 // The place behind the next `=`.
 fn behind_sign(text: &[u8], from: usize) -> usize {
     let mut i = from;
@@ -43,8 +36,8 @@ fn behind_sign(text: &[u8], from: usize) -> usize {
 fn labelled(text: &[u8], from: usize) -> Number {
     let number = digits::read_decimal(text, behind_sign(text, from), LARGEST);
     match number {
-        Decimal::Number { value, next } => Number { value, next },
-        Decimal::Wrong => Number {
+        Some(number) => number,
+        None => Number {
             value: 0,
             next: from,
         },
@@ -52,7 +45,7 @@ fn labelled(text: &[u8], from: usize) -> Number {
 }
 
 // The number behind a comma, or behind the newline and the name of a row.
-fn next_bits(text: &[u8], at: usize) -> Hex {
+fn next_bits(text: &[u8], at: usize) -> Option<Number> {
     if lent::byte_at(text, at) == b',' {
         return digits::read_hex(text, std::num::wrapping_add_usize(at, 1));
     }
@@ -64,7 +57,7 @@ fn read_seed(text: &[u8], from: usize, seed: &mut [f64]) -> usize {
     let mut at = from;
     let mut count = 0;
     while count < seed.len() {
-        let Hex::Bits { value, next } = next_bits(text, at) else {
+        let Some(Number { value, next }) = next_bits(text, at) else {
             return count;
         };
         seed[count] = reading::value_of(value);

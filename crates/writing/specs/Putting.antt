@@ -3,12 +3,11 @@ use Rattle.std.specs.Prelude.{Bool, List, [], ◌∷◌, ◌≡◌, ℕ, zero, s
 use Rattle.definition.specs.Numbers.{Params}
 use Rattle.digits.specs.Placed.{put}
 use Rattle.reading.specs.Grammar.{Line, number_text, text_up_to}
-use Rattle.reading.specs.Parts.{line_of}
 use Rattle.files.specs.RunText.{numbers_of}
 
 -- the line of a name, decimal or hex; what numbers it may have doesn't matter to its text
 abbrev pub line_named : List ℕ → Bool → Line
-line_named name in_hex = line_of name in_hex 0 0 0
+line_named name in_hex = record { name = name; in_hex = in_hex; largest = 0; fewest = 0; most = 0 }
 
 -- number i of a line: behind a comma unless it is the first
 unfoldable pub item_text : Line → ℕ → ℕ → List ℕ

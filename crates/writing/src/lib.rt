@@ -20,11 +20,9 @@ fn put_number(in_hex: bool, v: u64, out: &mut [u8], at: usize) -> usize
     ensures { Puts (number_text (line_named [] in_hex) v) at out.old result out.new }
 {
     if in_hex {
-        digits::write_hex(v, out, at);
-        return at + 16;
+        return digits::write_hex(v, out, at).unwrap();
     }
-    digits::write_decimal(v, out, at);
-    at + digits::decimal_length(v)
+    digits::write_decimal(v, out, at).unwrap()
 }
 
 // Number i of a line, behind a comma unless it is the first.
