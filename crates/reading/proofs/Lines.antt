@@ -12,7 +12,6 @@ use lib.Dec.{eqb, ltb}
 use lib.ListN.{length, get_or, drop, length-append, length-drop, get_or-append}
 use lib.Seq.{drop-cons, drop-drop, drop_at, get_or-drop}
 use Rattle.digits.specs.Digits.{decimal, hex, part, is_digit, is_hex, every}
-use Rattle.digits.specs.ReadHex.{read_hex}
 use Rattle.std.specs.Prelude.{Option, Some, None}
 use Rattle.digits.specs.declared.Number.{Number}
 use Rattle.digits.specs.ReadDecimal.{some_number}

@@ -27,6 +27,7 @@ const LARGEST32: u64 = 0xffff_ffff;
 
 // The numbers of a run file; zeros behind those of each list. Where the bytes are none, only `line` says something: the first line that is
 // wrong, missing, extra or over a size, from 1, or 0 for too many bytes.
+// Flag, line and counts stand beside arrays since it is C's record: `reading_c::reading_read_run` answers it, in fixed memory.
 #[repr(C)]
 #[derive(Clone, Copy)]
 pub struct RunFile {
@@ -210,11 +211,7 @@ fn columns_of(numbers: [u64; 1024]) -> [u32; 1024]
 fn values_of(bits: [u64; 1024]) -> [f64; 1024]
     ensures { result ≡ floats_of bits }
 {
-    let mut values = [0.0; 1024];
-    for i in 0..1024 {
-        values[i] = value_of(bits[i]);
-    }
-    values
+    bits.map(value_of)
 }
 
 fn faulty(line: u64) -> RunFile

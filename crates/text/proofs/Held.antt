@@ -12,8 +12,8 @@ use lib.Seq.{take-append_seam}
 use Rattle.definition.specs.Refusals.{Verdict, refused}
 use Rattle.definition.specs.SpectralEmbedding.{Counts}
 use Rattle.digits.specs.Placed.{put}
-use Rattle.std.specs.Prelude.{Option, Some, None}
-use Rattle.std.specs.Option.{is_some, unwrap_or}
+use Rattle.std.specs.Prelude.{Some, None}
+use Rattle.std.specs.Option.{unwrap_or}
 use Rattle.files.proofs.Floats.{length_floats, take_floats}
 use Rattle.input.proofs.Verdicts.{test_passes}
 use Rattle.printing.specs.Printed.{refusal_text, room}
@@ -21,7 +21,7 @@ use Rattle.printing.specs.Room.{Leaves}
 use Rattle.printing.specs.Answer as printing
 use Rattle.printing.specs.Answer.{test_answer}
 use Rattle.printing.proofs.Answers.{refusal_tests, refusal-says, answer_left}
-use Rattle.printing.proofs.Leaving.{same_text, put_count}
+use Rattle.printing.proofs.Leaving.{same_text}
 use Rattle.reading.specs.Grammar.{starts_most, entries_most, rounds_most}
 use Rattle.reading.specs.ReadRun.{Read, run, fault, read_run, record_of, floats_of, padded}
 use Rattle.reading.specs.declared.RunFile.{RunFile}

@@ -53,8 +53,12 @@ module _ {A : Type 0} (f : A → List ℕ) where
   joined-room : (xs : List A) (i : ℕ) (d : A) → i < length xs
       → length (joined_by f (take i xs)) + length (item_text i (f (get_or xs i d))) ≤ length (joined_by f xs)
   joined-room xs i d h =
-      omega (arith, ap length (joined-more xs i d h), length-append (joined_by f (take i xs)) (item_text i (f (get_or xs i d))),
-      part-most xs d (length xs - (i + 1)) (i + 1) (omega arith))
+      omega (
+        arith,
+        ap length (joined-more xs i d h),
+        length-append (joined_by f (take i xs)) (item_text i (f (get_or xs i d))),
+        part-most xs d (length xs - (i + 1)) (i + 1) (omega arith),
+      )
 
   -- the same for the element x that stands at i
   pub more-at : (xs : List A) (i : ℕ) (x : A) → i < length xs → x ≡ get_or xs i x

@@ -1,6 +1,6 @@
 use mathlib.Core.Path.{sym, ap, ◌∙◌}
 use native.Mathlib.Omega.{arith}
-use Rattle.std.specs.Prelude.{Ok, Err}
+use Rattle.std.specs.Prelude.{Ok}
 use Rattle.reading.specs.Parts.{outcome_of}
 use Rattle.reading.specs.ReadRun.{floats_of}
 use Rattle.reading.specs.declared.RunFile.{RunFile}
@@ -49,6 +49,6 @@ returns c =
     let t = taken _ 1024 _ _ _ c.read_line.ensures c.in_ok-line6.ensures.ok_part in
     let u = taken _ 1024 _ _ _ c.read_line-2.ensures c.in_ok-line7.ensures.ok_part in
     λ vs n s. ap (λ (r : RunFile). Ok r)
-        (right-record (record { d = h.d; rounds = h.rounds; degree = h.degree; seed_std = h.seed; starts = vs; columns = t.numbers; values = u.numbers }) _ _ _ _ _ _ _
-        c.value_of.ensures n t.counted u.counted s (c.columns_of.ensures ∙ t.stored) (c.values_of.ensures ∙ ap floats_of u.stored))
-        ∙ sym (ap outcome_of (end_right a.bytes.now h.d h.rounds h.degree h.seed vs a.from _ _ t.is _ _ u.is c.if-line7-bytes.false))
+    (right-record (record { d = h.d; rounds = h.rounds; degree = h.degree; seed_std = h.seed; starts = vs; columns = t.numbers; values = u.numbers }) _ _ _ _ _ _ _
+    c.value_of.ensures n t.counted u.counted s (c.columns_of.ensures ∙ t.stored) (c.values_of.ensures ∙ ap floats_of u.stored))
+    ∙ sym (ap outcome_of (end_right a.bytes.now h.d h.rounds h.degree h.seed vs a.from _ _ t.is _ _ u.is c.if-line7-bytes.false))

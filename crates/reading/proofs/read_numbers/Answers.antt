@@ -1,6 +1,6 @@
 use native.Mathlib.Omega.{arith}
 use mathlib.Core.Path.{sym, ◌∙◌}
-use Rattle.reading.proofs.Steps.{scan_start, scan_full, scan_wrong, scan_last, scan_other, scan_more, inside_of}
+use Rattle.reading.proofs.Steps.{scan_start, scan_full, scan_wrong, scan_last, scan_other, scan_more}
 use Rattle.reading.proofs.read_numbers.Goals as goal
 
 pub loop-i-init : goal.loop-i-init

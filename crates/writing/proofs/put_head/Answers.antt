@@ -21,13 +21,29 @@ put_line-at2-requires c =
 
 pub put_line-at3-requires : goal.put_line-at3-requires
 put_line-at3-requires c =
-    omega (arith, c.requires, head-length c.args.d (params_of c.args.params), c.put_line-at1.ensures.0, c.put_line-at1.auto.out,
-    c.put_line-at2.ensures.0, c.put_line-at2.auto.out)
+    omega (
+      arith,
+      c.requires,
+      head-length c.args.d (params_of c.args.params),
+      c.put_line-at1.ensures.0,
+      c.put_line-at1.auto.out,
+      c.put_line-at2.ensures.0,
+      c.put_line-at2.auto.out,
+    )
 
 pub put_line-requires : goal.put_line-requires
 put_line-requires c =
-    omega (arith, c.requires, head-length c.args.d (params_of c.args.params), c.put_line-at1.ensures.0, c.put_line-at1.auto.out,
-    c.put_line-at2.ensures.0, c.put_line-at2.auto.out, c.put_line-at3.ensures.0, c.put_line-at3.auto.out)
+    omega (
+      arith,
+      c.requires,
+      head-length c.args.d (params_of c.args.params),
+      c.put_line-at1.ensures.0,
+      c.put_line-at1.auto.out,
+      c.put_line-at2.ensures.0,
+      c.put_line-at2.auto.out,
+      c.put_line-at3.ensures.0,
+      c.put_line-at3.auto.out,
+    )
 
 pub returns : goal.returns
 returns c =

@@ -15,8 +15,15 @@ put_numbers-next-requires g c =
 
 pub put_text-requires : goal.put_text-requires
 put_text-requires g c =
-    omega (arith, c.requires, c.put_text-named.ensures.0, c.put_text-named.auto.out, c.put_numbers-next.ensures.0, c.put_numbers-next.auto.out,
-    line-length g.T.Item.text c.args.name.now c.args.numbers.now)
+    omega (
+      arith,
+      c.requires,
+      c.put_text-named.ensures.0,
+      c.put_text-named.auto.out,
+      c.put_numbers-next.ensures.0,
+      c.put_numbers-next.auto.out,
+      line-length g.T.Item.text c.args.name.now c.args.numbers.now,
+    )
 
 pub returns : goal.returns
 returns g c =

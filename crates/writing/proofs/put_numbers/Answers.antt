@@ -1,8 +1,8 @@
-use mathlib.Core.Path.{refl, sym, ap, subst, ◌∙◌}
-use mathlib.Core.List.{List, []}
-use Prim.Native.Nat.{ℕ, ◌<◌}
+use mathlib.Core.Path.{refl, sym, subst}
+use mathlib.Core.List.{List}
+use Prim.Native.Nat.{ℕ}
 use native.Mathlib.Omega.{arith}
-use lib.ListN.{length, get_or, take}
+use lib.ListN.{take}
 use lib.Seq.{take_all}
 use Rattle.printing.proofs.Putting.{Put, put-none, put_then}
 use Rattle.writing.specs.Putting.{joined_by, item_text}

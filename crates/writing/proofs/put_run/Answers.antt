@@ -25,14 +25,30 @@ put_line-at5-requires c =
 pub put_line-at6-requires : goal.put_line-at6-requires
 put_line-at6-requires c =
     let a = c.args in
-    omega (arith, c.requires, run_length a.d (params_of a.params) a.starts.now a.columns.now a.values.now, c.put_head-at4.ensures.0, c.put_head-at4.auto.out,
-    c.put_line-at5.ensures.0, c.put_line-at5.auto.out)
+    omega (
+      arith,
+      c.requires,
+      run_length a.d (params_of a.params) a.starts.now a.columns.now a.values.now,
+      c.put_head-at4.ensures.0,
+      c.put_head-at4.auto.out,
+      c.put_line-at5.ensures.0,
+      c.put_line-at5.auto.out,
+    )
 
 pub put_line-requires : goal.put_line-requires
 put_line-requires c =
     let a = c.args in
-    omega (arith, c.requires, run_length a.d (params_of a.params) a.starts.now a.columns.now a.values.now, c.put_head-at4.ensures.0, c.put_head-at4.auto.out,
-    c.put_line-at5.ensures.0, c.put_line-at5.auto.out, c.put_line-at6.ensures.0, c.put_line-at6.auto.out)
+    omega (
+      arith,
+      c.requires,
+      run_length a.d (params_of a.params) a.starts.now a.columns.now a.values.now,
+      c.put_head-at4.ensures.0,
+      c.put_head-at4.auto.out,
+      c.put_line-at5.ensures.0,
+      c.put_line-at5.auto.out,
+      c.put_line-at6.ensures.0,
+      c.put_line-at6.auto.out,
+    )
 
 pub returns : goal.returns
 returns c =
