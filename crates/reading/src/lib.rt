@@ -197,6 +197,7 @@ pub fn value_of(bits: u64) -> f64
     f64::from_bits(bits)
 }
 
+// A loop: with `numbers.map(|n| n as u32)` the check does not prove that each cast fits (tried: `map-requires` stays open).
 fn columns_of(numbers: [u64; 1024]) -> [u32; 1024]
     requires { (i : ℕ) → get_or numbers i 0 ≤ largest32 }
     ensures { result ≡ numbers }
