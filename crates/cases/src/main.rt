@@ -8,7 +8,6 @@
 
 ghost use Rattle.std.specs.Prelude.{◌≡◌, length};
 
-use digits::Written;
 use std::io;
 use stored::Said;
 use tally::{Kind, Tally};
@@ -71,10 +70,10 @@ impl<'a> Iterator for Cases<'a> {
 // Whether the run file has the stored answer.
 fn is_answered(run: &[u8], stored: &[u8]) -> bool {
     let mut out = [0u8; text::ROOM];
-    match text::answer(run, &mut out) {
-        Written::To(end) => out.get(..end).is_some_and(|answer| answer == stored),
-        Written::Short => false,
-    }
+    let Some(end) = text::answer(run, &mut out) else {
+        return false;
+    };
+    out.get(..end).is_some_and(|answer| answer == stored)
 }
 
 fn try_case(case: &Case, t: &mut Tally) {

@@ -1,6 +1,6 @@
 // What a stored answer says. One of another form is read as something else, and so is not printed again as it was.
 use crate::lent::ACCEPTED;
-use digits::{Decimal, Hex};
+use digits::Number;
 use input::Verdict;
 use state::Counts;
 
@@ -82,22 +82,6 @@ impl Said {
 
 // ---- reading
 
-// The decimal that stands at a place, and the place behind it.
-fn decimal_at(text: &[u8], at: usize) -> Option<(u64, usize)> {
-    match digits::read_decimal(text, at, u64::MAX) {
-        Decimal::Number { value, next } => Some((value, next)),
-        Decimal::Wrong => None,
-    }
-}
-
-// The pattern that stands at a place, and the place behind it.
-fn bits_at(text: &[u8], at: usize) -> Option<(u64, usize)> {
-    match digits::read_hex(text, at) {
-        Hex::Bits { value, next } => Some((value, next)),
-        Hex::Wrong => None,
-    }
-}
-
 // What is left to read of a stored answer.
 #[derive(Drop)]
 struct Left<'a>(&'a [u8]);
@@ -106,7 +90,7 @@ impl Left<'_> {
     // The decimal behind the next `=`; none, and nothing is read, where there is no such.
     fn next_decimal(&mut self) -> Option<u64> {
         let sign = self.0.iter().position(|b| *b == b'=')?;
-        let (value, next) = decimal_at(self.0, sign + 1)?;
+        let Number { value, next } = digits::read_decimal(self.0, sign + 1, u64::MAX)?;
         self.0 = self.0.get(next..)?;
         Some(value)
     }
@@ -118,7 +102,7 @@ impl Left<'_> {
     // The pattern behind a comma, or behind the newline and the name of a row.
     fn next_bits(&mut self) -> Option<u64> {
         let from = if self.0.first() == Some(&b',') { 1 } else { 5 };
-        let (value, next) = bits_at(self.0, from)?;
+        let Number { value, next } = digits::read_hex(self.0, from)?;
         self.0 = self.0.get(next..)?;
         Some(value)
     }

@@ -143,10 +143,3 @@ byte_hex d p =
     (λ l. let e : hex_digit d ≡ 48 + d = byte_low d l in digit-hex (hex_digit d) (range_digit (hex_digit d) (omega arith) (omega arith)))
     (λ l. let e : hex_digit d ≡ 87 + d = byte_high d l in letter_hex (hex_digit d) (omega arith) (omega arith))
     (lt_or_ge d 10)
-
--- ---- what the code's `hex_value` answers
-pub value_hit : (b v : ℕ) → is_hex b ≡ true → hex_value b ≡ v → v ≡ cond (is_hex b) (hex_value b) 16
-value_hit b v h e = sym (ap (λ (t : Bool). cond t (hex_value b) 16) h ∙ e)
-
-pub value-miss : (b : ℕ) → is_hex b ≡ false → 16 ≡ cond (is_hex b) (hex_value b) 16
-value-miss b h = sym (ap (λ (t : Bool). cond t (hex_value b) 16) h)

@@ -1,17 +1,16 @@
 -- Steps of the writers: a digit more at the end of what is put. Assumes nothing.
 use mathlib.Core.Path.{◌≡◌, sym, ap, ap₂, ◌∙◌}
-use mathlib.Core.Bool.{Bool, cond}
+use mathlib.Core.Bool.{Bool, true, false, cond}
 use mathlib.Core.List.{List, [], ◌∷◌, ◌++◌}
 use Prim.Native.Nat.{ℕ, suc, ◌+◌, ◌-◌, ◌/◌, ◌%◌, ◌^◌, ◌≤◌, ◌<◌}
 use native.Mathlib.Nat.{add-zero}
 use native.Mathlib.Numerals.{add-one}
 use native.Mathlib.Omega.{arith}
-use borrow.Author.Tests.{le-leb, lt-leb}
 use lib.ListN.{length, set, take, drop, take-append-drop}
 use lib.Seq.{set_split}
 use Rattle.digits.specs.Digits.{decimal, hex_of, hex_digit}
-use Rattle.digits.specs.Placed.{put, placed, written, Writes}
-use Rattle.digits.specs.declared.Written.TheVariants.{To, Short}
+use Rattle.digits.specs.Placed.{put, fits_at, placed, written, Writes}
+use Rattle.std.specs.Prelude.{Some, None}
 use Rattle.digits.proofs.Lists.{put-more}
 use Rattle.digits.proofs.Decimals.{decimal-small, decimal-more, decimal_longer}
 use Rattle.digits.proofs.Hexes.{hex_nil, hex-more, hex-length}
@@ -52,21 +51,17 @@ hex-more-put m x at out before b p room e d =
 
 -- ---- the two answers
 module _ (text : List ℕ) (at : ℕ) (out : List ℕ) where
-  pub writes_short : length out < at + length text → Writes text at out Short out
+  pub writes_short : fits_at text at out ≡ false → Writes text at out None out
   unfolding placed written
-  writes_short h =
-      let e = lt-leb (at + length text) (length out) h in
-      record {
-        answered = sym (ap (λ (t : Bool). cond t (To (at + length text)) Short) e);
-        bytes = sym (ap (λ (t : Bool). cond t (put text at out) out) e);
-      }
+  writes_short e = record {
+    answered = sym (ap (λ (t : Bool). cond t (Some (at + length text)) None) e);
+    bytes = sym (ap (λ (t : Bool). cond t (put text at out) out) e);
+  }
 
-  pub writes_to : at + length text ≤ length out → (next : ℕ) (after : List ℕ) → next ≡ at + length text → after ≡ put text at out
-      → Writes text at out (To next) after
+  pub writes_to : fits_at text at out ≡ true → (next : ℕ) (after : List ℕ) → next ≡ at + length text → after ≡ put text at out
+      → Writes text at out (Some next) after
   unfolding placed written
-  writes_to h next after n a =
-      let e = le-leb (at + length text) (length out) h in
-      record {
-        answered = ap To n ∙ sym (ap (λ (t : Bool). cond t (To (at + length text)) Short) e);
-        bytes = a ∙ sym (ap (λ (t : Bool). cond t (put text at out) out) e);
-      }
+  writes_to e next after n a = record {
+    answered = ap Some n ∙ sym (ap (λ (t : Bool). cond t (Some (at + length text)) None) e);
+    bytes = a ∙ sym (ap (λ (t : Bool). cond t (put text at out) out) e);
+  }

@@ -8,29 +8,27 @@ use borrow.Author.Tests.{leb-true, le-leb}
 use lib.Dec.{leb}
 use lib.ListN.{length, get_or}
 use Rattle.digits.specs.Digits.{decimal, hex, part, is_digit}
-use Rattle.digits.specs.ReadDecimal.{read_decimal}
+use Rattle.digits.specs.ReadDecimal.{some_number, read_decimal}
 use Rattle.digits.specs.ReadHex.{read_hex}
 use Rattle.digits.specs.Placed.{put, placed, written}
-use Rattle.digits.specs.declared.Decimal.TheVariants.{Number}
-use Rattle.digits.specs.declared.Hex.TheVariants.{Bits}
-use Rattle.digits.specs.declared.Written.TheVariants.{To, Short}
+use Rattle.std.specs.Prelude.{Some, None}
 use Rattle.digits.proofs.Lists.{part_length, put-length, put-part, put_next, put_same}
 use Rattle.digits.proofs.Reading.{decimal-sound, decimal_complete, hex-sound, hex_complete}
 
 -- ---- any text that was written
 module _ (text : List ℕ) (at : ℕ) (out : List ℕ) where
-  pub written-fits : (next : ℕ) → written text at out ≡ To next → (at + length text ≤ length out) × (at + length text ≡ next)
+  pub written-fits : (next : ℕ) → written text at out ≡ Some next → (at + length text ≤ length out) × (at + length text ≡ next)
   unfolding written
   written-fits next e = go (leb (at + length text) (length out)) refl e
     where
-      go : (t : Bool) → leb (at + length text) (length out) ≡ t → cond t (To (at + length text)) Short ≡ To next
+      go : (t : Bool) → leb (at + length text) (length out) ≡ t → cond t (Some (at + length text)) None ≡ Some next
           → (at + length text ≤ length out) × (at + length text ≡ next)
       go true h e = (leb-true (at + length text) (length out) h, cc)
       go false h e = let z : ◌≡◌ {A = ℕ} 0 1 = cc in absurd (omega arith)
 
-  pub fits-written : at + length text ≤ length out → written text at out ≡ To (at + length text)
+  pub fits-written : at + length text ≤ length out → written text at out ≡ Some (at + length text)
   unfolding written
-  fits-written h = ap (λ (t : Bool). cond t (To (at + length text)) Short) (le-leb (at + length text) (length out) h)
+  fits-written h = ap (λ (t : Bool). cond t (Some (at + length text)) None) (le-leb (at + length text) (length out) h)
 
   pub fits-placed : at + length text ≤ length out → placed text at out ≡ put text at out
   unfolding placed
@@ -41,22 +39,22 @@ module _ (text bytes : List ℕ) (from next : ℕ) (starts : from ≤ next) (ins
   same_end : from + length text ≡ next
   same_end = omega (arith, part_length from next bytes starts inside, ap length stood)
 
-  pub same-written : written text from bytes ≡ To next
-  same-written = fits-written text from bytes (omega (arith, same_end)) ∙ ap To same_end
+  pub same-written : written text from bytes ≡ Some next
+  same-written = fits-written text from bytes (omega (arith, same_end)) ∙ ap Some same_end
 
   pub same-placed : placed text from bytes ≡ bytes
   same-placed = fits-placed text from bytes (omega (arith, same_end)) ∙ put_same from next bytes text starts inside stood
 
 -- what stands in `out` after writing
-pub placed-part : (text : List ℕ) (at : ℕ) (out : List ℕ) (next : ℕ) → written text at out ≡ To next → part at next (placed text at out) ≡ text
+pub placed-part : (text : List ℕ) (at : ℕ) (out : List ℕ) (next : ℕ) → written text at out ≡ Some next → part at next (placed text at out) ≡ text
 placed-part text at out next e =
     let f = written-fits text at out next e in
     ap (λ (n : ℕ). part at n (placed text at out)) (sym f.1) ∙ ap (part at (at + length text)) (fits-placed text at out f.0)
     ∙ put-part text at out f.0
 
 -- ---- decimals: written, then read
-pub decimal_back : (x at most : ℕ) (out : List ℕ) (next : ℕ) → written (decimal x) at out ≡ To next → is_digit (get_or out next 0) ≡ false
-    → x ≤ most → most < 10 ^ 20 → read_decimal (placed (decimal x) at out) at most ≡ Number x next
+pub decimal_back : (x at most : ℕ) (out : List ℕ) (next : ℕ) → written (decimal x) at out ≡ Some next → is_digit (get_or out next 0) ≡ false
+    → x ≤ most → most < 10 ^ 20 → read_decimal (placed (decimal x) at out) at most ≡ some_number x next
 decimal_back x at most out next e stop small limit =
     let f = written-fits (decimal x) at out next e in
     let p = fits-placed (decimal x) at out f.0 in
@@ -73,21 +71,21 @@ decimal_back x at most out next e stop small limit =
     })
 
 -- read, then written where it stood, or elsewhere
-module _ (bytes : List ℕ) (from most v next : ℕ) (limit : most < 10 ^ 20) (found : read_decimal bytes from most ≡ Number v next) where
-  pub decimal_again : (written (decimal v) from bytes ≡ To next) × (placed (decimal v) from bytes ≡ bytes)
+module _ (bytes : List ℕ) (from most v next : ℕ) (limit : most < 10 ^ 20) (found : read_decimal bytes from most ≡ some_number v next) where
+  pub decimal_again : (written (decimal v) from bytes ≡ Some next) × (placed (decimal v) from bytes ≡ bytes)
   decimal_again =
       let s = decimal-sound bytes from most v next limit found in (
         same-written (decimal v) bytes from next s.starts s.inside s.text,
         same-placed (decimal v) bytes from next s.starts s.inside s.text,
       )
 
-  pub decimal_copied : (at : ℕ) (out : List ℕ) (end : ℕ) → written (decimal v) at out ≡ To end
+  pub decimal_copied : (at : ℕ) (out : List ℕ) (end : ℕ) → written (decimal v) at out ≡ Some end
       → part at end (placed (decimal v) at out) ≡ part from next bytes
   decimal_copied at out end e =
       placed-part (decimal v) at out end e ∙ sym (decimal-sound bytes from most v next limit found).text
 
 -- ---- hex: written, then read
-pub hex_back : (x at : ℕ) (out : List ℕ) (next : ℕ) → x < 2 ^ 64 → written (hex x) at out ≡ To next → read_hex (placed (hex x) at out) at ≡ Bits x next
+pub hex_back : (x at : ℕ) (out : List ℕ) (next : ℕ) → x < 2 ^ 64 → written (hex x) at out ≡ Some next → read_hex (placed (hex x) at out) at ≡ some_number x next
 hex_back x at out next below e =
     let f = written-fits (hex x) at out next e in
     let p = fits-placed (hex x) at out f.0 in
@@ -98,13 +96,13 @@ hex_back x at out next below e =
       text = placed-part (hex x) at out next e;
     })
 
-module _ (bytes : List ℕ) (from v next : ℕ) (found : read_hex bytes from ≡ Bits v next) where
-  pub hex_again : (written (hex v) from bytes ≡ To next) × (placed (hex v) from bytes ≡ bytes)
+module _ (bytes : List ℕ) (from v next : ℕ) (found : read_hex bytes from ≡ some_number v next) where
+  pub hex_again : (written (hex v) from bytes ≡ Some next) × (placed (hex v) from bytes ≡ bytes)
   hex_again =
       let s = hex-sound bytes from v next found in (
         same-written (hex v) bytes from next s.starts s.inside s.text,
         same-placed (hex v) bytes from next s.starts s.inside s.text,
       )
 
-  pub hex_copied : (at : ℕ) (out : List ℕ) (end : ℕ) → written (hex v) at out ≡ To end → part at end (placed (hex v) at out) ≡ part from next bytes
+  pub hex_copied : (at : ℕ) (out : List ℕ) (end : ℕ) → written (hex v) at out ≡ Some end → part at end (placed (hex v) at out) ≡ part from next bytes
   hex_copied at out end e = placed-part (hex v) at out end e ∙ sym (hex-sound bytes from v next found).text

@@ -10,16 +10,15 @@ use lib.Dec.{leb}
 use lib.ListN.{length, get_or, take, drop, length-drop}
 use lib.Seq.{drop-cons}
 use Rattle.digits.specs.Digits.{is_hex, every, hex_value, value_from, hex_from}
-use Rattle.digits.specs.ReadDecimal.{plain, up_to, digits_at, read_decimal}
+use Rattle.digits.specs.ReadDecimal.{some_number, plain, up_to, digits_at, read_decimal}
 use Rattle.digits.specs.ReadHex.{read_hex}
-use Rattle.digits.specs.declared.Decimal.TheVariants as D
-use Rattle.digits.specs.declared.Hex.TheVariants as H
-use Rattle.digits.proofs.Bytes.{both, not_left, not_right, settle, digit_range, value-small}
+use Rattle.std.specs.Prelude.{Some, None}
+use Rattle.digits.proofs.Bytes.{both, not_left, not_right, digit_range}
 use Rattle.digits.proofs.Runs.{run-most, at-digit, at_more}
-use Rattle.digits.proofs.Decimals.{value_cons, value_nil, value-one, value_grows, plain_of}
+use Rattle.digits.proofs.Decimals.{value_cons, value_nil, value_grows, plain_of}
 use Rattle.digits.proofs.Hexes.{from_cons, from_nil, room-more}
 
--- ---- the number of the digits up to `end`, read as far as i
+-- ---- the some_number of the digits up to `end`, read as far as i
 module _ (bytes : List ℕ) (i end value : ℕ) (left : i + length (digits_at bytes i) ≡ end) (inside : end ≤ length bytes) (more : i < end) where
   pub step-digit : (48 ≤ get_or bytes i 0) × (get_or bytes i 0 ≤ 57)
   step-digit = digit_range (get_or bytes i 0) (at_more bytes i (omega arith) (omega arith))
@@ -35,11 +34,11 @@ module _ (bytes : List ℕ) (i end value : ℕ) (left : i + length (digits_at by
 
   -- one digit more is too much
   pub step-over : (ds : List ℕ) (from most : ℕ) → value_from value (digits_at bytes i) ≡ value_from 0 ds
-      → most < value * 10 + (get_or bytes i 0 - 48) → D.Wrong ≡ up_to most ds from
+      → most < value * 10 + (get_or bytes i 0 - 48) → None ≡ up_to most ds from
   step-over ds from most e h =
       let g : most < value_from 0 ds =
       omega (arith, e, step_value, value_grows (value * 10 + (get_or bytes i 0 - 48)) (digits_at bytes (i + 1))) in
-      sym (ap (λ (t : Bool). cond t (D.Number (value_from 0 ds) (from + length ds)) D.Wrong) (lt-leb (value_from 0 ds) most g))
+      sym (ap (λ (t : Bool). cond t (some_number (value_from 0 ds) (from + length ds)) None) (lt-leb (value_from 0 ds) most g))
 
 none_left : (ds : List ℕ) (v : ℕ) → length ds ≡ 0 → value_from v ds ≡ v
 none_left [] v e = value_nil v
@@ -47,10 +46,10 @@ none_left (d ∷ ds) v e = absurd (omega arith)
 
 -- all are read
 pub scan_done : (ds rest : List ℕ) (v from most end : ℕ) → value_from v rest ≡ value_from 0 ds → length rest ≡ 0 → v ≤ most → end ≡ from + length ds
-    → D.Number v end ≡ up_to most ds from
+    → some_number v end ≡ up_to most ds from
 scan_done ds rest v from most end e z h b =
     let w : v ≡ value_from 0 ds = sym (none_left rest v z) ∙ e in
-    ap₂ D.Number w b ∙ sym (ap (λ (t : Bool). cond t (D.Number (value_from 0 ds) (from + length ds)) D.Wrong) (le-leb (value_from 0 ds) most (omega arith)))
+    ap₂ some_number w b ∙ sym (ap (λ (t : Bool). cond t (some_number (value_from 0 ds) (from + length ds)) None) (le-leb (value_from 0 ds) most (omega arith)))
 
 -- ---- which answer a run gives
 not-plain_nil : (ds : List ℕ) → length ds ≡ 0 → plain ds ≡ false
@@ -64,15 +63,15 @@ not-plain-zero d [] e k = absurd (omega arith)
 not-plain-zero d (f ∷ fs) e k = ap not (eq-eqb d 48 e)
 
 module _ (bytes : List ℕ) (from most end : ℕ) (place : end ≡ from + length (digits_at bytes from)) where
-  no_number : plain (digits_at bytes from) ≡ false → D.Wrong ≡ read_decimal bytes from most
+  no_number : plain (digits_at bytes from) ≡ false → None ≡ read_decimal bytes from most
   unfolding read_decimal
-  no_number h = sym (ap (λ (t : Bool). cond t (up_to most (digits_at bytes from) from) D.Wrong) h)
+  no_number h = sym (ap (λ (t : Bool). cond t (up_to most (digits_at bytes from) from) None) h)
 
   number : plain (digits_at bytes from) ≡ true → up_to most (digits_at bytes from) from ≡ read_decimal bytes from most
   unfolding read_decimal
-  number h = sym (ap (λ (t : Bool). cond t (up_to most (digits_at bytes from) from) D.Wrong) h)
+  number h = sym (ap (λ (t : Bool). cond t (up_to most (digits_at bytes from) from) None) h)
 
-  pub run_empty : end ≤ from → D.Wrong ≡ read_decimal bytes from most
+  pub run_empty : end ≤ from → None ≡ read_decimal bytes from most
   run_empty h = no_number (not-plain_nil (digits_at bytes from) (omega arith))
 
   module _ (some : from < end) where
@@ -82,37 +81,28 @@ module _ (bytes : List ℕ) (from most end : ℕ) (place : end ≡ from + length
     first : digits_at bytes from ≡ get_or bytes from 0 ∷ digits_at bytes (from + 1)
     first = at-digit bytes from (omega (arith, run_inside)) (at_more bytes from (omega (arith, run_inside)) (omega arith))
 
-    pub run_leading : get_or bytes from 0 ≡ 48 → from + 1 < end → D.Wrong ≡ read_decimal bytes from most
+    pub run_leading : get_or bytes from 0 ≡ 48 → from + 1 < end → None ≡ read_decimal bytes from most
     run_leading z h =
         no_number (ap plain first ∙ not-plain-zero (get_or bytes from 0) (digits_at bytes (from + 1)) z (omega (arith, ap length first)))
 
-    pub run-zero : get_or bytes from 0 ≡ 48 → end ≤ from + 1 → D.Number 0 end ≡ read_decimal bytes from most
-    run-zero z h =
-        let lone : digits_at bytes (from + 1) ≡ [] = none (digits_at bytes (from + 1)) (omega (arith, ap length first)) in
-        let ds : digits_at bytes from ≡ 48 ∷ [] = first ∙ ap₂ (λ (d : ℕ) (l : List ℕ). d ∷ l) z lone in
-        let v : 0 ≡ value_from 0 (digits_at bytes from) = sym (ap (value_from 0) ds ∙ value-one 0 48) in
-        scan_done (digits_at bytes from) [] 0 from most end (value_nil 0 ∙ v) refl (omega arith) place
-        ∙ number (ap plain ds ∙ plain_of (48 ∷ []) (omega arith) (λ e. omega arith))
-      where
-        none : (l : List ℕ) → length l ≡ 0 → l ≡ []
-        none [] e = refl
-        none (x ∷ l) e = absurd (omega arith)
+    pub run-lone : end ≤ from + 1 → up_to most (digits_at bytes from) from ≡ read_decimal bytes from most
+    run-lone h = number (plain_of (digits_at bytes from) (omega arith) (λ e. omega arith))
 
     pub run-number : (get_or bytes from 0 ≡ 48 → ⊥) → up_to most (digits_at bytes from) from ≡ read_decimal bytes from most
     run-number h =
         number (plain_of (digits_at bytes from) (omega arith) (λ e. absurd (h (sym (ap (λ (l : List ℕ). get_or l 0 0) first) ∙ e))))
 
 -- the same with the answer in front and the run's end written out, as `grind` applies them by name
-pub case_empty : (bytes : List ℕ) (from most : ℕ) → length (digits_at bytes from) ≡ 0 → read_decimal bytes from most ≡ D.Wrong
+pub case_empty : (bytes : List ℕ) (from most : ℕ) → length (digits_at bytes from) ≡ 0 → read_decimal bytes from most ≡ None
 case_empty bytes from most h = sym (run_empty bytes from most (from + length (digits_at bytes from)) refl (omega arith))
 
 pub case_leading : (bytes : List ℕ) (from most : ℕ) → get_or bytes from 0 ≡ 48 → 1 < length (digits_at bytes from)
-    → read_decimal bytes from most ≡ D.Wrong
+    → read_decimal bytes from most ≡ None
 case_leading bytes from most z h = sym (run_leading bytes from most (from + length (digits_at bytes from)) refl (omega arith) z (omega arith))
 
-pub case_zero : (bytes : List ℕ) (from most : ℕ) → get_or bytes from 0 ≡ 48 → length (digits_at bytes from) ≡ 1
-    → read_decimal bytes from most ≡ D.Number 0 (from + length (digits_at bytes from))
-case_zero bytes from most z h = sym (run-zero bytes from most (from + length (digits_at bytes from)) refl (omega arith) z (omega arith))
+pub case_lone : (bytes : List ℕ) (from most : ℕ) → length (digits_at bytes from) ≡ 1
+    → read_decimal bytes from most ≡ up_to most (digits_at bytes from) from
+case_lone bytes from most h = sym (run-lone bytes from most (from + length (digits_at bytes from)) refl (omega arith) (omega arith))
 
 pub case_number : (bytes : List ℕ) (from most : ℕ) → (get_or bytes from 0 ≡ 48 → ⊥) → 0 < length (digits_at bytes from)
     → read_decimal bytes from most ≡ up_to most (digits_at bytes from) from
@@ -159,44 +149,45 @@ hex-room k v d more p q =
     let e : 16 ^ (k + 1) ≤ 16 ^ 16 = pow-le-pow_right {n = 16} (omega arith) {i = k + 1} {j = 16} (omega arith) in
     omega (arith, room-more v d k p q)
 
--- the answer's digit, as the code tells a hex byte from another
-pub hex_told : (b : ℕ) → cond (is_hex b) (hex_value b) 16 ≤ 15 → is_hex b ≡ true
-hex_told b h = go (is_hex b) h
+-- what the code's `hex_value` tells
+pub hex_told : (b d : ℕ) → cond (is_hex b) (Some (hex_value b)) None ≡ Some d → (is_hex b ≡ true) × (d ≡ hex_value b)
+hex_told b d h = go (is_hex b) h
   where
-    go : (t : Bool) → cond t (hex_value b) 16 ≤ 15 → t ≡ true
-    go true h = refl
-    go false h = absurd (omega arith)
+    go : (t : Bool) → cond t (Some (hex_value b)) None ≡ Some d → (t ≡ true) × (d ≡ hex_value b)
+    go true h = (refl, cc)
+    go false h = let z : ◌≡◌ {A = ℕ} 0 1 = cc in absurd (omega arith)
 
-pub hex-not_told : (b : ℕ) → 15 < cond (is_hex b) (hex_value b) 16 → is_hex b ≡ false
-hex-not_told b h = settle (is_hex b) (λ e. absurd (omega (arith, value-small b e, ap (λ (t : Bool). cond t (hex_value b) 16) e)))
-
-pub hex_told_value : (b : ℕ) → is_hex b ≡ true → cond (is_hex b) (hex_value b) 16 ≡ hex_value b
-hex_told_value b e = ap (λ (t : Bool). cond t (hex_value b) 16) e
+pub hex-not_told : (b : ℕ) → cond (is_hex b) (Some (hex_value b)) None ≡ None → is_hex b ≡ false
+hex-not_told b h = go (is_hex b) h
+  where
+    go : (t : Bool) → cond t (Some (hex_value b)) None ≡ None → t ≡ false
+    go true h = let z : ◌≡◌ {A = ℕ} 0 1 = cc in absurd (omega arith)
+    go false h = refl
 
 -- ---- the two answers for hex
-pub hex-wrong : (bytes : List ℕ) (from : ℕ) → every is_hex (take 16 (drop from bytes)) ≡ false → H.Wrong ≡ read_hex bytes from
+pub hex-wrong : (bytes : List ℕ) (from : ℕ) → every is_hex (take 16 (drop from bytes)) ≡ false → None ≡ read_hex bytes from
 unfolding read_hex
 hex-wrong bytes from h =
-    sym (ap (λ (t : Bool). cond t (H.Bits (hex_from 0 (take 16 (drop from bytes))) (from + 16)) H.Wrong)
+    sym (ap (λ (t : Bool). cond t (some_number (hex_from 0 (take 16 (drop from bytes))) (from + 16)) None)
     (not_right (leb (from + 16) (length bytes)) (every is_hex (take 16 (drop from bytes))) h))
 
-pub hex-short : (bytes : List ℕ) (from : ℕ) → length bytes < from + 16 → H.Wrong ≡ read_hex bytes from
+pub hex-short : (bytes : List ℕ) (from : ℕ) → leb (from + 16) (length bytes) ≡ false → None ≡ read_hex bytes from
 unfolding read_hex
 hex-short bytes from h =
-    sym (ap (λ (t : Bool). cond t (H.Bits (hex_from 0 (take 16 (drop from bytes))) (from + 16)) H.Wrong)
-    (not_left (leb (from + 16) (length bytes)) (every is_hex (take 16 (drop from bytes))) (lt-leb (from + 16) (length bytes) h)))
+    sym (ap (λ (t : Bool). cond t (some_number (hex_from 0 (take 16 (drop from bytes))) (from + 16)) None)
+    (not_left (leb (from + 16) (length bytes)) (every is_hex (take 16 (drop from bytes))) h))
 
 -- all 16 are read
 pub hex-done : (bytes : List ℕ) (from k v : ℕ) → from + 16 ≤ length bytes → k ≤ 16 → 16 ≤ k
     → every is_hex (take 16 (drop from bytes)) ≡ every is_hex (hex_left bytes from k)
     → hex_from 0 (take 16 (drop from bytes)) ≡ hex_from v (hex_left bytes from k)
-    → H.Bits v (from + 16) ≡ read_hex bytes from
+    → some_number v (from + 16) ≡ read_hex bytes from
 unfolding read_hex every
 hex-done bytes from k v inside p q e f =
     let z : 16 - k ≡ 0 = omega arith in
     let none : hex_left bytes from k ≡ [] = ap (λ (n : ℕ). take n (drop (from + k) bytes)) z in
     let all : every is_hex (take 16 (drop from bytes)) ≡ true = e ∙ ap (every is_hex) none in
     let value : hex_from 0 (take 16 (drop from bytes)) ≡ v = f ∙ ap (hex_from v) none ∙ from_nil v in
-    ap (λ (n : ℕ). H.Bits n (from + 16)) (sym value)
-    ∙ sym (ap (λ (t : Bool). cond t (H.Bits (hex_from 0 (take 16 (drop from bytes))) (from + 16)) H.Wrong)
+    ap (λ (n : ℕ). some_number n (from + 16)) (sym value)
+    ∙ sym (ap (λ (t : Bool). cond t (some_number (hex_from 0 (take 16 (drop from bytes))) (from + 16)) None)
     (both (leb (from + 16) (length bytes)) (every is_hex (take 16 (drop from bytes))) (le-leb (from + 16) (length bytes) inside) all))

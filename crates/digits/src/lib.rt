@@ -1,57 +1,39 @@
 // Numbers to text and text to numbers, on bytes: decimals without leading zeros, and 64 bits as 16 lower-case hex digits.
 //
-// A reader answers the number and the place behind it; a writer answers the place behind what it wrote.
+// A reader answers the number and the place behind it; a writer answers the place behind what it wrote, or None where it does not fit.
 #![tactic(auto)]
 
-ghost use Rattle.std.specs.Prelude.{◌≡◌, cond, ◌+◌, ◌≤◌, ◌<◌, length};
+ghost use Rattle.std.specs.Prelude.{◌≡◌, cond, ◌+◌, ◌≤◌, ◌<◌, leb, length, Some, None};
 ghost use Rattle.digits.specs.Digits.{decimal, hex_of, hex, is_digit, is_hex, hex_digit, hex_value};
 ghost use Rattle.digits.specs.ReadDecimal.{digits_at, up_to, read_decimal};
 ghost use Rattle.digits.specs.ReadHex.{read_hex};
 ghost use Rattle.digits.specs.Placed.{put, Writes};
 
-// The number that stands at a place, and the place behind it.
-#[derive(Drop)]
-pub enum Decimal {
-    Number { value: u64, next: usize },
-    Wrong,
-}
-
-// The 64 bits that stand at a place, and the place behind them.
-#[derive(Drop)]
-pub enum Hex {
-    Bits { value: u64, next: usize },
-    Wrong,
-}
-
-// The place behind what was written, or that it does not fit and nothing was.
-#[derive(Drop)]
-pub enum Written {
-    To(usize),
-    Short,
+// A number that stands at a place, and the place behind it.
+#[derive(Clone, Copy)]
+pub struct Number {
+    pub value: u64,
+    pub next: usize,
 }
 
 // Whether b is one of `0` to `9`.
+#[tactic(auto, using(std::proofs::lemmas::Bool::Decides::nat_tests), unfolding(crate::specs::Digits::is_digit))]
 pub fn is_digit(b: u8) -> bool
     ensures { result ≡ is_digit b }
 {
     b'0' <= b && b <= b'9'
 }
 
-// The digit that a lower-case hex byte stands for, or 16.
+// The digit that a lower-case hex byte stands for.
 #[tactic(auto, using(std::proofs::lemmas::Bool::Decides::nat_tests), unfolding(crate::specs::Digits::is_hex, crate::specs::Digits::is_digit, crate::specs::Digits::hex_value))]
-fn hex_value(b: u8) -> u64
-    ensures { result ≡ cond (is_hex b) (hex_value b) 16 }
+fn hex_value(b: u8) -> Option<u64>
+    ensures { result ≡ cond (is_hex b) (Some (hex_value b)) None }
 {
-    if is_digit(b) {
-        return (b - b'0') as u64;
+    match b {
+        b'0'..=b'9' => Some((b - b'0') as u64),
+        b'a'..=b'f' => Some((b - b'a') as u64 + 10),
+        _ => None,
     }
-    if b < b'a' {
-        return 16;
-    }
-    if b'f' < b {
-        return 16;
-    }
-    (b - b'a') as u64 + 10
 }
 
 // The byte of a hex digit.
@@ -70,88 +52,75 @@ fn hex_digit(d: u64) -> u8
 fn digits_end(bytes: &[u8], from: usize) -> usize
     ensures { result ≡ from + length (digits_at bytes.now from) }
 {
-    let mut i = from;
-    while i < bytes.len() {
+    for i in from..bytes.len() {
         if !is_digit(bytes[i]) {
             return i;
         }
-        i += 1;
     }
-    i
+    bytes.len().max(from)
 }
 
 // The number of the digits from `from` up to `end`, if it is at most `most`. A prefix that is larger settles it: the number only grows.
-fn number_up_to(bytes: &[u8], from: usize, end: usize, most: u64) -> Decimal
+fn number_up_to(bytes: &[u8], from: usize, end: usize, most: u64) -> Option<Number>
     requires { (end ≡ from + length (digits_at bytes.now from)) × (end ≤ length bytes.now) }
     ensures { result ≡ up_to most (digits_at bytes.now from) from }
 {
-    let mut value: u64 = 0;
+    let mut value = 0;
     for i in from..end {
         let digit = (bytes[i] - b'0') as u64;
-        if most < digit {
-            return Decimal::Wrong;
-        }
-        if (most - digit) / 10 < value {
-            return Decimal::Wrong;
+        if most < digit || (most - digit) / 10 < value {
+            return None;
         }
         value = value * 10 + digit;
     }
-    Decimal::Number {
-        value: value,
-        next: end,
-    }
+    Some(Number { value, next: end })
 }
 
 // The longest run of digits at `from`, if it has no leading zero and its number is at most `most`.
-#[tactic(auto, using(crate::proofs::Scans::case_empty, crate::proofs::Scans::case_leading, crate::proofs::Scans::case_zero, crate::proofs::Scans::case_number, crate::proofs::Scans::case_inside, crate::proofs::Scans::case_digit))]
-pub fn read_decimal(bytes: &[u8], from: usize, most: u64) -> Decimal
+#[tactic(auto, using(crate::proofs::Scans::case_empty, crate::proofs::Scans::case_leading, crate::proofs::Scans::case_lone, crate::proofs::Scans::case_number, crate::proofs::Scans::case_inside, crate::proofs::Scans::case_digit))]
+pub fn read_decimal(bytes: &[u8], from: usize, most: u64) -> Option<Number>
     ensures { result ≡ read_decimal bytes.now from most }
 {
     let end = digits_end(bytes, from);
     if end <= from {
-        return Decimal::Wrong;
+        return None;
     }
-    if bytes[from] == b'0' {
-        // A zero stands alone.
-        if from + 1 < end {
-            return Decimal::Wrong;
-        }
-        return Decimal::Number {
-            value: 0,
-            next: end,
-        };
+    // A zero stands alone.
+    if bytes[from] == b'0' && from + 1 < end {
+        return None;
     }
     number_up_to(bytes, from, end, most)
 }
 
 // The 16 bytes at `from`, each a hex digit.
-fn hex_bits(bytes: &[u8], from: usize) -> Hex
+fn hex_bits(bytes: &[u8], from: usize) -> Option<Number>
     requires { from + 16 ≤ length bytes.now }
     ensures { result ≡ read_hex bytes.now from }
 {
-    let mut value: u64 = 0;
+    let mut value = 0;
     for k in 0..16 {
-        let digit = hex_value(bytes[from + k]);
-        if 15 < digit {
-            return Hex::Wrong;
-        }
+        let digit = hex_value(bytes[from + k])?;
         value = value * 16 + digit;
     }
-    Hex::Bits {
-        value: value,
+    Some(Number {
+        value,
         next: from + 16,
-    }
+    })
+}
+
+// Whether `count` of `len` bytes are there from `at` on.
+fn has_room(count: usize, at: usize, len: usize) -> bool
+    ensures { result ≡ leb (at + count) len }
+{
+    at <= len && count <= len - at
 }
 
 // The 16 bytes at `from`, if they are there and each is a lower-case hex digit.
-pub fn read_hex(bytes: &[u8], from: usize) -> Hex
+pub fn read_hex(bytes: &[u8], from: usize) -> Option<Number>
     ensures { result ≡ read_hex bytes.now from }
 {
-    if bytes.len() < from {
-        return Hex::Wrong;
-    }
-    if bytes.len() - from < 16 {
-        return Hex::Wrong;
+    if !has_room(16, from, bytes.len()) {
+        return None;
     }
     hex_bits(bytes, from)
 }
@@ -163,7 +132,7 @@ pub fn decimal_length(x: u64) -> usize
     let mut rest = x;
     let mut count = 1;
     while 10 <= rest {
-        rest = rest / 10;
+        rest /= 10;
         count += 1;
     }
     count
@@ -184,17 +153,13 @@ fn put_decimal(x: u64, out: &mut [u8], at: usize) -> usize
 }
 
 // The decimal of x at `at`. Where it does not fit, `out` stays as it is.
-pub fn write_decimal(x: u64, out: &mut [u8], at: usize) -> Written
+pub fn write_decimal(x: u64, out: &mut [u8], at: usize) -> Option<usize>
     ensures { Writes (decimal x) at out.old result out.new }
 {
-    if out.len() < at {
-        return Written::Short;
+    if !has_room(decimal_length(x), at, out.len()) {
+        return None;
     }
-    if out.len() - at < decimal_length(x) {
-        return Written::Short;
-    }
-    let end = put_decimal(x, out, at);
-    Written::To(end)
+    Some(put_decimal(x, out, at))
 }
 
 // The m lowest hex digits of x at `at`, where they fit. The digits before the last are those of x / 16.
@@ -211,15 +176,12 @@ fn put_hex(m: usize, x: u64, out: &mut [u8], at: usize)
 }
 
 // The 16 hex digits of x at `at`. Where they do not fit, `out` stays as it is.
-pub fn write_hex(x: u64, out: &mut [u8], at: usize) -> Written
+pub fn write_hex(x: u64, out: &mut [u8], at: usize) -> Option<usize>
     ensures { Writes (hex x) at out.old result out.new }
 {
-    if out.len() < at {
-        return Written::Short;
-    }
-    if out.len() - at < 16 {
-        return Written::Short;
+    if !has_room(16, at, out.len()) {
+        return None;
     }
     put_hex(16, x, out, at);
-    Written::To(at + 16)
+    Some(at + 16)
 }

@@ -13,26 +13,16 @@ fn print_map(rt: &impl Print, file: RunFile) -> io::Result<()>
     requires start_count_bound { (file.start_count ≤ 65) × (file.column_count ≤ 1024) × (file.value_count ≤ 1024) }
     requires starts_len { (length file.starts ≡ 65) × (length file.columns ≡ 1024) × (length file.values ≡ 1024) }
 {
-    let params = SpectralParams::new();
-    let start_count = file.start_count;
-    let column_count = file.column_count;
-    let value_count = file.value_count;
-    let starts = file.starts;
-    let columns = file.columns;
-    let values = file.values;
     let mut out = [0u8; 8192];
     let end = text::answer_graph(
         file.d,
-        params,
-        &starts[..start_count],
-        &columns[..column_count],
-        &values[..value_count],
+        SpectralParams::new(),
+        &file.starts[..file.start_count],
+        &file.columns[..file.column_count],
+        &file.values[..file.value_count],
         &mut out,
     );
-    if end <= 8192 {
-        rt.write_all(&out[..end])?;
-    }
-    Ok(())
+    rt.write_all(&out[..end])
 }
 
 fn main(rt: HostRuntime) -> io::Result<()> {

@@ -7,10 +7,12 @@ use native.Mathlib.Nat.{add-zero}
 use native.Mathlib.Omega.{arith}
 use borrow.Author.Tests.{le-leb}
 use lib.ListN.{length, take, drop, length-append, take-append-drop}
-use lib.Seq.{length-take-le, take_at, drop-drop, take-length, paste}
+use lib.Seq.{length-take-le, take_at, drop-drop}
 use Rattle.digits.specs.Placed.{put, placed, Writes}
-use Rattle.digits.specs.declared.Written.{Written}
+use Rattle.std.specs.Prelude.{Option, Some, IsSome}
+use Rattle.std.specs.Option.{is_some}
 use Rattle.digits.proofs.Lists.{put-behind}
+use Rattle.digits.proofs.RoundTrip.{fits-written}
 
 -- what each function here ensures: the place behind the text, and every byte
 abbrev pub Put : List ℕ → ℕ → List ℕ → ℕ → List ℕ → Type 0
@@ -22,16 +24,18 @@ put-none at out =
     (sym (add-zero at), sym (ap (λ (n : ℕ). take at out ++ drop n out) (add-zero at) ∙ take-append-drop at out))
 
 -- the digits' writers put their text where it fits
-pub written-put : (text : List ℕ) (at : ℕ) (out : List ℕ) (answer : Written) (after : List ℕ) → at + length text ≤ length out
-    → Writes text at out answer after → after ≡ put text at out
-unfolding placed
-written-put text at out answer after h w = w.bytes ∙ ap (λ (t : Bool). cond t (put text at out) out) (le-leb (at + length text) (length out) h)
+module _ (text : List ℕ) (at : ℕ) (out : List ℕ) (answer : Option ℕ) (after : List ℕ) (fits : at + length text ≤ length out) (w : Writes text at out answer after) where
+  written : answer ≡ Some (at + length text)
+  written = w.answered ∙ fits-written text at out fits
 
--- a copy of the whole text
-pub copied_put : (text : List ℕ) (at : ℕ) (out : List ℕ) → paste out at text (length text) ≡ put text at out
-copied_put text at out =
-    append_assoc (take at out) (take (length text) text) (drop (at + length text) out)
-    ∙ ap (λ (t : List ℕ). take at out ++ (t ++ drop (at + length text) out)) (take-length text)
+  pub written-some : IsSome answer
+  written-some = ap is_some written
+
+  pub written-put : (next : ℕ) → answer ≡ Some next → Put text at out next after
+  unfolding placed
+  written-put next e =
+      let k : Some (at + length text) ≡ Some next = sym written ∙ e in
+      (cc, w.bytes ∙ ap (λ (t : Bool). cond t (put text at out) out) (le-leb (at + length text) (length out) fits))
 
 -- ---- two texts, one behind the other
 module _ (a b : List ℕ) (at : ℕ) (out : List ℕ) (fits : at + length a ≤ length out) where

@@ -43,12 +43,9 @@ pub fn put_text(text: &[u8], out: &mut [u8], at: usize) -> usize
     requires { at + length text.now ≤ length out.old }
     ensures { (result ≡ at + length text.now) × (out.new ≡ put text.now at out.old) }
 {
-    let mut i = 0;
-    while i < text.len() {
-        out[at + i] = text[i];
-        i += 1;
-    }
-    at + i
+    let end = at + text.len();
+    out[at..end].copy_from_slice(text);
+    end
 }
 
 // A name, the decimal of x, a newline.
@@ -58,8 +55,7 @@ fn put_labelled(name: &[u8], x: u64, out: &mut [u8], at: usize) -> usize
         × (out.new ≡ put (labelled name.now x) at out.old) }
 {
     let named = put_text(name, out, at);
-    digits::write_decimal(x, out, named);
-    let next = named + digits::decimal_length(x);
+    let next = digits::write_decimal(x, out, named).unwrap();
     put_text(b"\n", out, next)
 }
 
@@ -78,8 +74,7 @@ fn put_bits(x: f64, out: &mut [u8], at: usize) -> usize
     requires { at + 16 ≤ length out.old }
     ensures { (result ≡ at + length (bits_text x)) × (out.new ≡ put (bits_text x) at out.old) }
 {
-    digits::write_hex(bits_of(x), out, at);
-    at + 16
+    digits::write_hex(bits_of(x), out, at).unwrap()
 }
 
 // The number x in column c of a row, behind a comma unless it is the first.

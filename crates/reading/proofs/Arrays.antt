@@ -5,14 +5,15 @@ use Prim.Native.Nat.{ℕ, zero, suc, ◌+◌, ◌-◌, ◌≤◌, ◌<◌}
 use native.Mathlib.Nat.{sub-zero}
 use native.Mathlib.Numerals.{add-one}
 use native.Mathlib.Omega.{arith}
-use lib.Ieee.{Float, of_bits, binary64}
+use lib.Ieee.{Float, nan, of_bits, binary64}
 use lib.ListN.{length, get_or, take, drop, set, replicate}
 use lib.Seq.{take-suc, take-suc-set, take_all}
 use Rattle.reading.specs.ReadLine.{Found, found, none}
 use Rattle.reading.specs.ReadRun.{padded, floats_of}
 use Rattle.reading.specs.Parts.{Reads}
-use Rattle.reading.specs.declared.ListRead.{ListRead}
-use Rattle.reading.specs.declared.ListRead.TheVariants as L
+use Rattle.std.specs.Prelude.{Option, Some, None}
+use Rattle.reading.specs.declared.Counted.{Counted}
+use Rattle.reading.proofs.Steps.{some_counted, same_counted}
 
 -- ---- zeros
 abbrev zeros : ℕ → List ℕ
@@ -40,30 +41,25 @@ pub record Taken (F : Found) (m count next : ℕ) (after : List ℕ) : Type 0 wh
   pub counted : count ≡ length numbers
   pub stored : after ≡ padded m numbers
 
-pub taken : (F : Found) (m : ℕ) (answer : ListRead) (after : List ℕ) (count next : ℕ) → Reads F (zeros m) answer after
-    → answer ≡ L.Found count next → Taken F m count next after
-taken (found vs n) m answer after count next s e =
-    let k : L.Found (length vs) n ≡ L.Found count next = sym s.answered ∙ e in
+pub taken : (F : Found) (m : ℕ) (answer : Option Counted) (after : List ℕ) (line : Counted) → Reads F (zeros m) answer after
+    → answer ≡ Some line → Taken F m line.count line.next after
+taken (found vs n) m answer after line s e =
+    let k = same_counted (length vs) n line.count line.next (sym s.answered ∙ e) in
     record {
       numbers = vs;
-      is = ap (found vs) (cc);
-      counted = cc;
+      is = ap (found vs) k.1;
+      counted = sym k.0;
       stored = s.numbers vs n refl ∙ ap (λ (l : List ℕ). vs ++ l) (drop-zeros (length vs) m);
     }
-taken none m answer after count next s e =
-    let k : L.Wrong ≡ L.Found count next = sym s.answered ∙ e in
+taken none m answer after line s e =
+    let k : None ≡ Some line = sym s.answered ∙ e in
     let z : ◌≡◌ {A = ℕ} 0 1 = cc in absurd (omega arith)
 
-pub not_taken : (F : Found) (out : List ℕ) (answer : ListRead) (after : List ℕ) → Reads F out answer after → answer ≡ L.Wrong → F ≡ none
+pub not_taken : (F : Found) (out : List ℕ) (answer : Option Counted) (after : List ℕ) → Reads F out answer after → answer ≡ None → F ≡ none
 not_taken (found vs n) out answer after s e =
-    let k : L.Found (length vs) n ≡ L.Wrong = sym s.answered ∙ e in
+    let k : some_counted (length vs) n ≡ None = sym s.answered ∙ e in
     let z : ◌≡◌ {A = ℕ} 0 1 = cc in absurd (omega arith)
 not_taken none out answer after s e = refl
-
--- what is no `Found` is `Wrong`
-pub not_found : (answer : ListRead) → ((count next : ℕ) → answer ≡ L.Found count next → ⊥) → answer ≡ L.Wrong
-not_found (L.Found count next) h = absurd (h count next refl)
-not_found L.Wrong h = refl
 
 -- ---- a copy, number by number
 pub copy_more : (source copy : List ℕ) (i : ℕ) → i < length source → i < length copy → take i copy ≡ take i source
@@ -76,18 +72,11 @@ pub copy_all : (source copy : List ℕ) (i : ℕ) → length source ≤ i → le
 copy_all source copy i p q e = sym (take_all i copy q) ∙ e ∙ take_all i source p
 
 -- ---- and as floats
-floats_more : (vs : List ℕ) (v : ℕ) → floats_of (vs ++ (v ∷ [])) ≡ floats_of vs ++ (of_bits binary64 v ∷ [])
+pub floats_mapped : (bits : List ℕ) (values : List Float) → length values ≡ length bits
+    → ((i : ℕ) → i < length bits → get_or values i nan ≡ of_bits binary64 (get_or bits i 0)) → values ≡ floats_of bits
 unfolding floats_of
-floats_more [] v = refl
-floats_more (w ∷ vs) v = ap (λ (l : List Float). of_bits binary64 w ∷ l) (floats_more vs v)
-
-pub floats_step : (bits : List ℕ) (values : List Float) (i : ℕ) (x : Float) → i < length bits → i < length values
-    → take i values ≡ floats_of (take i bits) → x ≡ of_bits binary64 (get_or bits i 0) → take (i + 1) (set values i x) ≡ floats_of (take (i + 1) bits)
-floats_step bits values i x p q e h =
-    ap (λ (n : ℕ). take n (set values i x)) (add-one i) ∙ take-suc-set values i x q
-    ∙ ap₂ (λ (l : List Float) (y : Float). l ++ (y ∷ [])) e h ∙ sym (floats_more (take i bits) (get_or bits i 0))
-    ∙ ap floats_of (sym (take-suc bits i 0 p)) ∙ ap (λ (n : ℕ). floats_of (take n bits)) (sym (add-one i))
-
-pub floats_all : (bits : List ℕ) (values : List Float) (i : ℕ) → length bits ≤ i → length values ≤ i → take i values ≡ floats_of (take i bits)
-    → values ≡ floats_of bits
-floats_all bits values i p q e = sym (take_all i values q) ∙ e ∙ ap floats_of (take_all i bits p)
+floats_mapped [] [] n h = refl
+floats_mapped [] (x ∷ xs) n h = absurd (omega arith)
+floats_mapped (b ∷ bs) [] n h = absurd (omega arith)
+floats_mapped (b ∷ bs) (x ∷ xs) n h =
+    ap₂ (λ (y : Float) (l : List Float). y ∷ l) (h 0 (omega arith)) (floats_mapped bs xs (omega arith) (λ i p. h (suc i) (omega arith)))

@@ -12,17 +12,16 @@ use lib.Dec.{eqb, ltb}
 use lib.ListN.{length, get_or, drop, length-append, length-drop, get_or-append}
 use lib.Seq.{drop-cons, drop-drop, drop_at, get_or-drop}
 use Rattle.digits.specs.Digits.{decimal, hex, part, is_digit, is_hex, every}
-use Rattle.digits.specs.ReadHex.{read_hex}
-use Rattle.digits.specs.declared.Decimal.{Decimal}
-use Rattle.digits.specs.declared.Decimal.TheVariants as D
-use Rattle.digits.specs.declared.Hex as hexes
+use Rattle.std.specs.Prelude.{Option, Some, None}
+use Rattle.digits.specs.declared.Number.{Number}
+use Rattle.digits.specs.ReadDecimal.{some_number}
 use Rattle.digits.proofs.Bytes.{both, both_of, low-no-digit, digit_range, hex_range}
 use Rattle.digits.proofs.Lists.{every-at, every_cons, part-front, part-split}
 use Rattle.digits.proofs.Decimals.{decimal-least, decimal-digits}
 use Rattle.digits.proofs.Hexes.{hex-length, hex-digits}
 use Rattle.digits.proofs.Reading.{decimal-sound, decimal_complete, hex-sound, hex_complete, hex-below}
 use Rattle.reading.specs.Grammar.{Line, largest64, number_text, joined, line_text, Right}
-use Rattle.reading.specs.ReadLine.{Found, found, none, of_hex, number_at, before, numbers_from, list_from, stands_at, line_from}
+use Rattle.reading.specs.ReadLine.{Found, found, none, number_at, before, numbers_from, list_from, stands_at, line_from}
 use Rattle.reading.proofs.Steps.{inside_of, stands_cons, stands_nil, number-hex, number-decimal, numbers-wrong, numbers-last, numbers_more, numbers_other, numbers-full, line-no-name, line_list, list_numbers, list_empty, list_few}
 
 -- what the lines of the table have in common: none asks for more than one number, hex holds any 64 bits, and no byte of a name is 0
@@ -76,10 +75,6 @@ stands_complete (b ∷ bs) bytes at rest e =
     (stands_complete bs bytes (at + 1) rest (after_text bytes at (b ∷ []) (bs ++ rest) e))
 
 -- ---- a number
-of_hex_lem : (h : hexes.Hex) (v next : ℕ) → of_hex h ≡ D.Number v next → h ≡ hexes.TheVariants.Bits v next
-of_hex_lem (hexes.TheVariants.Bits w n) v next e = cc
-of_hex_lem hexes.TheVariants.Wrong v next e = let z : ◌≡◌ {A = ℕ} 0 1 = cc in absurd (omega arith)
-
 -- the number v stands from `at` up to `next`
 pub record Numbered (l : Line) (bytes : List ℕ) (at v next : ℕ) : Type 0 where
   pub small : v ≤ l.largest
@@ -92,12 +87,12 @@ module _ (l : Line) (bytes : List ℕ) (fair : Fair l) where
   text_of at next t v e s p =
       part-split at next bytes s ∙ ap (λ (x : List ℕ). x ++ drop next bytes) (p ∙ sym (ap (λ (b : Bool). cond b (hex v) (decimal v)) e))
 
-  pub number-sound : (at v next : ℕ) → number_at l bytes at ≡ D.Number v next → Numbered l bytes at v next
+  pub number-sound : (at v next : ℕ) → number_at l bytes at ≡ some_number v next → Numbered l bytes at v next
   number-sound at v next e = go l.in_hex refl
     where
       go : (t : Bool) → l.in_hex ≡ t → Numbered l bytes at v next
       go true t =
-          let r = of_hex_lem (read_hex bytes at) v next (number-hex l bytes at (read_hex bytes at) t refl ∙ e) in
+          let r = number-hex l bytes at t ∙ e in
           let s = hex-sound bytes at v next r in
           record {
             small = omega (arith, hex-below bytes at v next r, fair.bits t);
@@ -125,18 +120,18 @@ module _ (l : Line) (bytes : List ℕ) (fair : Fair l) where
           (n, (digit_range (get_or (decimal v) 0 0) (every-at is_digit (decimal v) (decimal-digits v b) 0 (omega arith))).0)
 
   pub number_complete : (at v b : ℕ) (rest : List ℕ) → v ≤ l.largest → drop at bytes ≡ number_text l v ++ (b ∷ rest) → b < 48
-      → number_at l bytes at ≡ D.Number v (at + length (number_text l v))
+      → number_at l bytes at ≡ some_number v (at + length (number_text l v))
   number_complete at v b rest h e low = go l.in_hex refl
     where
-      go : (t : Bool) → l.in_hex ≡ t → number_at l bytes at ≡ D.Number v (at + length (number_text l v))
+      go : (t : Bool) → l.in_hex ≡ t → number_at l bytes at ≡ some_number v (at + length (number_text l v))
       go true t =
           let w : number_text l v ≡ hex v = ap (λ (b : Bool). cond b (hex v) (decimal v)) t in
           let d : drop at bytes ≡ hex v ++ (b ∷ rest) = e ∙ ap (λ (x : List ℕ). x ++ (b ∷ rest)) w in
           let n = text-length bytes at (hex v) (b ∷ rest) d in
-          sym (number-hex l bytes at (hexes.TheVariants.Bits v (at + length (hex v))) t
-          (hex_complete bytes at v (at + length (hex v)) (omega (arith, fair.small))
-          (record { inside = omega arith; starts = omega arith; text = part-front at bytes (hex v) (b ∷ rest) d })))
-          ∙ ap (λ (x : List ℕ). D.Number v (at + length x)) (sym w)
+          sym (number-hex l bytes at t)
+          ∙ hex_complete bytes at v (at + length (hex v)) (omega (arith, fair.small))
+          (record { inside = omega arith; starts = omega arith; text = part-front at bytes (hex v) (b ∷ rest) d })
+          ∙ ap (λ (x : List ℕ). some_number v (at + length x)) (sym w)
       go false t =
           let w : number_text l v ≡ decimal v = ap (λ (b : Bool). cond b (hex v) (decimal v)) t in
           let d : drop at bytes ≡ decimal v ++ (b ∷ rest) = e ∙ ap (λ (x : List ℕ). x ++ (b ∷ rest)) w in
@@ -150,7 +145,7 @@ module _ (l : Line) (bytes : List ℕ) (fair : Fair l) where
             small = h;
             ends = ap is_digit (behind-text bytes at (decimal v) (b ∷ rest) d) ∙ low-no-digit b low;
           })
-          ∙ ap (λ (x : List ℕ). D.Number v (at + length x)) (sym w)
+          ∙ ap (λ (x : List ℕ). some_number v (at + length x)) (sym w)
 
 -- ---- numbers by commas
 -- the numbers vs stand from `at` up to `next`, and a newline behind them
@@ -223,25 +218,25 @@ module _ (l : Line) (bytes : List ℕ) (fair : Fair l) where
   numbers_say zero at = subst (ListSays l bytes at 0) (sym (numbers-full l bytes at)) refl
   numbers_say (suc room) at = go (number_at l bytes at) refl (λ next. numbers_say room next)
     where
-      go : (d : Decimal) → number_at l bytes at ≡ d → ((next : ℕ) → ListSays l bytes next room (numbers_from l bytes next room))
+      go : (d : Option Number) → number_at l bytes at ≡ d → ((next : ℕ) → ListSays l bytes next room (numbers_from l bytes next room))
           → ListSays l bytes at (suc room) (numbers_from l bytes at (suc room))
-      go D.Wrong e rest = subst (ListSays l bytes at (suc room)) (sym (numbers-wrong l bytes at room e)) refl
-      go (D.Number v next) e rest =
-          by_byte (eqb (get_or bytes next 0) 10) refl (eqb (get_or bytes next 0) 44) refl
+      go None e rest = subst (ListSays l bytes at (suc room)) (sym (numbers-wrong l bytes at room e)) refl
+      go (Some n) e rest =
+          by_byte (eqb (get_or bytes n.next 0) 10) refl (eqb (get_or bytes n.next 0) 44) refl
         where
-          by_byte : (t : Bool) → eqb (get_or bytes next 0) 10 ≡ t → (u : Bool) → eqb (get_or bytes next 0) 44 ≡ u
+          by_byte : (t : Bool) → eqb (get_or bytes n.next 0) 10 ≡ t → (u : Bool) → eqb (get_or bytes n.next 0) 44 ≡ u
               → ListSays l bytes at (suc room) (numbers_from l bytes at (suc room))
           by_byte true t u k =
-              let b = eqb-true (get_or bytes next 0) 10 t in
-              subst (ListSays l bytes at (suc room)) (sym (numbers-last l bytes at room v next e b))
-              (last_says at room v next (number-sound l bytes fair at v next e) b)
+              let b = eqb-true (get_or bytes n.next 0) 10 t in
+              subst (ListSays l bytes at (suc room)) (sym (numbers-last l bytes at room n.value n.next e b))
+              (last_says at room n.value n.next (number-sound l bytes fair at n.value n.next e) b)
           by_byte false t true k =
-              let b = eqb-true (get_or bytes next 0) 44 k in
-              subst (ListSays l bytes at (suc room)) (sym (numbers_more l bytes at room v next e b))
-              (more-says at room v next (number-sound l bytes fair at v next e) b (numbers_from l bytes (next + 1) room) (rest (next + 1)))
+              let b = eqb-true (get_or bytes n.next 0) 44 k in
+              subst (ListSays l bytes at (suc room)) (sym (numbers_more l bytes at room n.value n.next e b))
+              (more-says at room n.value n.next (number-sound l bytes fair at n.value n.next e) b (numbers_from l bytes (n.next + 1) room) (rest (n.next + 1)))
           by_byte false t false k =
               subst (ListSays l bytes at (suc room))
-              (sym (numbers_other l bytes at room v next e (eqb-false (get_or bytes next 0) 10 t) (eqb-false (get_or bytes next 0) 44 k))) refl
+              (sym (numbers_other l bytes at room n.value n.next e (eqb-false (get_or bytes n.next 0) 10 t) (eqb-false (get_or bytes n.next 0) 44 k))) refl
 
   numbers_complete : (vs : List ℕ) (v room at : ℕ) (rest : List ℕ) → length (v ∷ vs) ≤ room
       → ((i : ℕ) → i < length (v ∷ vs) → get_or (v ∷ vs) i 0 ≤ l.largest) → drop at bytes ≡ joined l (v ∷ vs) ++ (10 ∷ rest)

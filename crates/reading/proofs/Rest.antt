@@ -1,6 +1,6 @@
 -- What is left to read once some lines are read: for the code, which goes line by line, and for the laws of whole files. Assumes nothing.
 use mathlib.Core.Path.{◌≡◌, refl, sym, ap, ◌∙◌}
-use mathlib.Core.Bool.{Bool, true, false, cond, false≢true}
+use mathlib.Core.Bool.{Bool, true, cond, false≢true}
 use mathlib.Core.List.{List, [], ◌∷◌}
 use Prim.Native.Nat.{ℕ, zero, suc, ◌≤◌, ◌<◌}
 use native.Mathlib.Omega.{arith}
@@ -8,18 +8,21 @@ use borrow.Author.Tests.{lt-ltb, le-ltb}
 use lib.Dec.{eqb, ltb}
 use lib.ListN.{length, get_or}
 use Rattle.digits.specs.Digits.{every}
-use Rattle.reading.specs.declared.OneRead.{OneRead}
-use Rattle.reading.specs.declared.OneRead.TheVariants as O
+use Rattle.std.specs.Prelude.{Option, Some, None, Err}
+use Rattle.std.specs.Option.{ok_or}
+use Rattle.digits.specs.ReadDecimal.{some_number}
+use Rattle.digits.proofs.Reading.{same_number}
+use Rattle.reading.specs.declared.Kind.TheVariants.{UpTo, Bits}
 use Rattle.reading.specs.Grammar.{bytes_most, RunNumbers, numbers_at, line_at, line_count, largest64, rounds_most, d_line, rounds_line, degree_line, seed_std_line, starts_line, columns_line, values_line}
 use Rattle.reading.specs.ReadLine.{Found, found, none, line_from}
 use Rattle.reading.specs.ReadRun.{Read, run, fault, on_line, one, read_lists, read_lines, read_run}
 use Rattle.reading.specs.Parts.{line_of, one_of, read_entries}
 use Rattle.reading.proofs.Lines.{Fair, line-sound}
 
--- what is no `Found` is `Wrong`
-pub one_not_found : (answer : OneRead) → ((number next : ℕ) → answer ≡ O.Found number next → ⊥) → answer ≡ O.Wrong
-one_not_found (O.Found number next) h = absurd (h number next refl)
-one_not_found O.Wrong h = refl
+-- what `ok_or` makes of an answer that is none
+pub refused_as : {A : Type 0} (o : Option A) (line e : ℕ) → Err e ≡ ok_or o line → (o ≡ None) × (e ≡ line)
+refused_as None line e h = (refl, cc)
+refused_as (Some x) line e h = let z : ◌≡◌ {A = ℕ} 0 1 = cc in absurd (omega arith)
 
 -- ---- line by line
 pub each_line : (P : ℕ → Type 0) → P 0 → P 1 → P 2 → P 3 → P 4 → P 5 → P 6 → (i : ℕ) → i < line_count → P i
@@ -33,10 +36,10 @@ each_line P a b c d e f g (suc (suc (suc (suc (suc (suc zero)))))) h = g
 each_line P a b c d e f g (suc (suc (suc (suc (suc (suc (suc i))))))) h = absurd (omega arith)
 
 in_decimal : (name : List ℕ) (largest fewest most : ℕ) → every (ltb 0) name ≡ true → largest ≤ largest64 → fewest ≤ 1
-    → Fair (line_of name false largest fewest most)
+    → Fair (line_of name (UpTo largest) fewest most)
 in_decimal name largest fewest most p q r = record { few = r; small = q; bits = λ e. absurd (false≢true e); letters = p }
 
-in_hex_lem : (name : List ℕ) (fewest most : ℕ) → every (ltb 0) name ≡ true → fewest ≤ 1 → Fair (line_of name true largest64 fewest most)
+in_hex_lem : (name : List ℕ) (fewest most : ℕ) → every (ltb 0) name ≡ true → fewest ≤ 1 → Fair (line_of name Bits fewest most)
 in_hex_lem name fewest most p r = record { few = r; small = omega arith; bits = λ e. refl; letters = p }
 
 pub fair : (i : ℕ) → i < line_count → Fair (line_at i)
@@ -174,54 +177,54 @@ pub line-inside : (i : ℕ) → i < line_count → (bytes : List ℕ) (at : ℕ)
 line-inside i below bytes at vs next e = (line-sound (line_at i) bytes (fair i below) at vs next e).inside
 
 -- ---- lines 1 to 4, each with one number
-one-says : (F : Found) (v next : ℕ) → one_of F ≡ O.Found v next → (vs : List ℕ) × (F ≡ found vs next) × (one vs ≡ v)
-one-says (found vs n) v next e = (vs, ap (found vs) (cc), cc)
+one-says : (F : Found) (v next : ℕ) → one_of F ≡ some_number v next → (vs : List ℕ) × (F ≡ found vs next) × (one vs ≡ v)
+one-says (found vs n) v next e = let s = same_number (one vs) n v next e in (vs, ap (found vs) s.1, s.0)
 one-says none v next e = let z : ◌≡◌ {A = ℕ} 0 1 = cc in absurd (omega arith)
 
-one_none : (F : Found) → one_of F ≡ O.Wrong → F ≡ none
+one_none : (F : Found) → one_of F ≡ None → F ≡ none
 one_none (found vs n) h = let z : ◌≡◌ {A = ℕ} 0 1 = cc in absurd (omega arith)
 one_none none h = refl
 
 -- the place behind such a line
-pub one_inside : (i : ℕ) → i < line_count → (bytes : List ℕ) (at v next : ℕ) → one_of (line_from (line_at i) bytes at) ≡ O.Found v next
+pub one_inside : (i : ℕ) → i < line_count → (bytes : List ℕ) (at v next : ℕ) → one_of (line_from (line_at i) bytes at) ≡ some_number v next
     → next ≤ length bytes
 one_inside i below bytes at v next e =
     let s = one-says (line_from (line_at i) bytes at) v next e in
     line-inside i below bytes at s.0 next s.1
 
 module _ (bytes : List ℕ) where
-  pub d-right : (v next : ℕ) → one_of (line_from d_line bytes 0) ≡ O.Found v next → read_lines bytes ≡ after1 bytes v next
+  pub d-right : (v next : ℕ) → one_of (line_from d_line bytes 0) ≡ some_number v next → read_lines bytes ≡ after1 bytes v next
   unfolding after0
   d-right v next e =
       let s = one-says (line_from d_line bytes 0) v next e in
       start_of bytes ∙ ap (with1 bytes) s.1 ∙ ap (λ (x : ℕ). after1 bytes x next) s.2
 
-  pub d-wrong : one_of (line_from d_line bytes 0) ≡ O.Wrong → read_lines bytes ≡ fault 1
+  pub d-wrong : one_of (line_from d_line bytes 0) ≡ None → read_lines bytes ≡ fault 1
   unfolding after0
   d-wrong e = start_of bytes ∙ ap (with1 bytes) (one_none (line_from d_line bytes 0) e)
 
-  pub rounds-right : (d at v next : ℕ) → one_of (line_from rounds_line bytes at) ≡ O.Found v next → after1 bytes d at ≡ after2 bytes d v next
+  pub rounds-right : (d at v next : ℕ) → one_of (line_from rounds_line bytes at) ≡ some_number v next → after1 bytes d at ≡ after2 bytes d v next
   unfolding after1
   rounds-right d at v next e =
       let s = one-says (line_from rounds_line bytes at) v next e in
       ap (with2 bytes d) s.1 ∙ ap (λ (x : ℕ). after2 bytes d x next) s.2
 
-  pub rounds-wrong : (d at : ℕ) → one_of (line_from rounds_line bytes at) ≡ O.Wrong → after1 bytes d at ≡ fault 2
+  pub rounds-wrong : (d at : ℕ) → one_of (line_from rounds_line bytes at) ≡ None → after1 bytes d at ≡ fault 2
   unfolding after1
   rounds-wrong d at e = ap (with2 bytes d) (one_none (line_from rounds_line bytes at) e)
 
-  pub degree-right : (d rounds at v next : ℕ) → one_of (line_from degree_line bytes at) ≡ O.Found v next
+  pub degree-right : (d rounds at v next : ℕ) → one_of (line_from degree_line bytes at) ≡ some_number v next
       → after2 bytes d rounds at ≡ after3 bytes d rounds v next
   unfolding after2
   degree-right d rounds at v next e =
       let s = one-says (line_from degree_line bytes at) v next e in
       ap (with3 bytes d rounds) s.1 ∙ ap (λ (x : ℕ). after3 bytes d rounds x next) s.2
 
-  pub degree-wrong : (d rounds at : ℕ) → one_of (line_from degree_line bytes at) ≡ O.Wrong → after2 bytes d rounds at ≡ fault 3
+  pub degree-wrong : (d rounds at : ℕ) → one_of (line_from degree_line bytes at) ≡ None → after2 bytes d rounds at ≡ fault 3
   unfolding after2
   degree-wrong d rounds at e = ap (with3 bytes d rounds) (one_none (line_from degree_line bytes at) e)
 
-  pub seed-right : (d rounds degree at v next : ℕ) → one_of (line_from seed_std_line bytes at) ≡ O.Found v next
+  pub seed-right : (d rounds degree at v next : ℕ) → one_of (line_from seed_std_line bytes at) ≡ some_number v next
       → after3 bytes d rounds degree at ≡ read_lists bytes d rounds degree v next
   unfolding after3
   seed-right d rounds degree at v next e =
@@ -229,6 +232,6 @@ module _ (bytes : List ℕ) where
       ap (with4 bytes d rounds degree) s.1 ∙ ap (λ (x : ℕ). after4 bytes d rounds degree x next) s.2
       ∙ sym (lists_of bytes d rounds degree v next)
 
-  pub seed-wrong : (d rounds degree at : ℕ) → one_of (line_from seed_std_line bytes at) ≡ O.Wrong → after3 bytes d rounds degree at ≡ fault 4
+  pub seed-wrong : (d rounds degree at : ℕ) → one_of (line_from seed_std_line bytes at) ≡ None → after3 bytes d rounds degree at ≡ fault 4
   unfolding after3
   seed-wrong d rounds degree at e = ap (with4 bytes d rounds degree) (one_none (line_from seed_std_line bytes at) e)

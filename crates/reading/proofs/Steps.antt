@@ -11,18 +11,32 @@ use borrow.Author.Tests.{eq-eqb, ne_eqb}
 use lib.Dec.{eqb}
 use lib.ListN.{length, get_or, take, drop, set, length-append, length-set, take-append-drop, drop_of_length-le, get_or-eq_default}
 use lib.Seq.{drop-cons, length-take-le, take-suc-set, drop-set-lt}
-use Rattle.digits.specs.ReadDecimal.{read_decimal}
+use Rattle.digits.specs.ReadDecimal.{some_number, read_decimal}
 use Rattle.digits.specs.ReadHex.{read_hex}
-use Rattle.digits.specs.declared.Hex as hexes
-use Rattle.digits.specs.declared.Decimal.{Decimal}
-use Rattle.digits.specs.declared.Decimal.TheVariants as D
+use Rattle.std.specs.Prelude.{Option, Some, None}
+use Rattle.digits.specs.declared.Number.{Number}
 use Rattle.digits.proofs.Bytes.{lt_or_ge}
 use Rattle.reading.specs.Grammar.{Line}
-use Rattle.reading.specs.ReadLine.{Found, found, none, of_hex, number_at, before, on_number, numbers_from, list_from, stands_at, line_from}
+use Rattle.reading.specs.ReadLine.{Found, found, none, number_at, before, on_number, numbers_from, list_from, stands_at, line_from}
 use Rattle.reading.specs.Parts.{line_of, list_of, one_of, Reads}
-use Rattle.reading.specs.declared.ListRead.{ListRead}
-use Rattle.reading.specs.declared.ListRead.TheVariants as L
-use Rattle.reading.specs.declared.OneRead.TheVariants as O
+use Rattle.reading.specs.declared.Counted.{Counted}
+use Rattle.reading.specs.declared.Kind.{Kind}
+
+-- so many numbers, and the place behind them; two that are the same have the same parts
+abbrev pub some_counted : ℕ → ℕ → Option Counted
+some_counted count next = Some (record { count = count; next = next })
+
+count_in : Option Counted → ℕ
+count_in (Some c) = c.count
+count_in None = 0
+
+next_in : Option Counted → ℕ
+next_in (Some c) = c.next
+next_in None = 0
+
+pub same_counted : (count next n after : ℕ) → some_counted count next ≡ some_counted n after → (count ≡ n) × (next ≡ after)
+unfolding count_in next_in
+same_counted count next n after e = (ap count_in e, ap next_in e)
 
 -- ---- a byte that is not 0 stands among the bytes
 pub inside_of : (bytes : List ℕ) (i : ℕ) → 1 ≤ get_or bytes i 0 → i < length bytes
@@ -64,11 +78,11 @@ module _ (name bytes : List ℕ) (at i : ℕ) where
 
 -- ---- a number in either form
 module _ (l : Line) (bytes : List ℕ) (at : ℕ) where
-  pub number-hex : (h : hexes.Hex) → l.in_hex ≡ true → read_hex bytes at ≡ h → of_hex h ≡ number_at l bytes at
-  number-hex h t e = sym (ap (λ (b : Bool). cond b (of_hex (read_hex bytes at)) (read_decimal bytes at l.largest)) t ∙ ap of_hex e)
+  pub number-hex : l.in_hex ≡ true → read_hex bytes at ≡ number_at l bytes at
+  number-hex t = sym (ap (λ (b : Bool). cond b (read_hex bytes at) (read_decimal bytes at l.largest)) t)
 
   pub number-decimal : l.in_hex ≡ false → read_decimal bytes at l.largest ≡ number_at l bytes at
-  number-decimal t = sym (ap (λ (b : Bool). cond b (of_hex (read_hex bytes at)) (read_decimal bytes at l.largest)) t)
+  number-decimal t = sym (ap (λ (b : Bool). cond b (read_hex bytes at) (read_decimal bytes at l.largest)) t)
 
 -- ---- one number of a list
 module _ (l : Line) (bytes : List ℕ) (at room : ℕ) where
@@ -77,18 +91,18 @@ module _ (l : Line) (bytes : List ℕ) (at room : ℕ) where
       cond (eqb (get_or bytes next 0) 10) (found (v ∷ []) (next + 1))
       (cond (eqb (get_or bytes next 0) 44) (before v (numbers_from l bytes (next + 1) room)) none)
 
-  read_with : (d : Decimal) → number_at l bytes at ≡ d → numbers_from l bytes at (suc room) ≡ on_number d behind
+  read_with : (d : Option Number) → number_at l bytes at ≡ d → numbers_from l bytes at (suc room) ≡ on_number d behind
   unfolding numbers_from behind
-  read_with d e = ap (λ (n : Decimal). on_number n behind) e
+  read_with d e = ap (λ (n : Option Number). on_number n behind) e
 
-  pub numbers-wrong : number_at l bytes at ≡ D.Wrong → numbers_from l bytes at (suc room) ≡ none
-  numbers-wrong e = read_with D.Wrong e
+  pub numbers-wrong : number_at l bytes at ≡ None → numbers_from l bytes at (suc room) ≡ none
+  numbers-wrong e = read_with None e
 
-  module _ (v next : ℕ) (e : number_at l bytes at ≡ D.Number v next) where
+  module _ (v next : ℕ) (e : number_at l bytes at ≡ some_number v next) where
     pub numbers-last : get_or bytes next 0 ≡ 10 → numbers_from l bytes at (suc room) ≡ found (v ∷ []) (next + 1)
     unfolding behind
     numbers-last h =
-        read_with (D.Number v next) e
+        read_with (some_number v next) e
         ∙ ap (λ (t : Bool). cond t (found (v ∷ []) (next + 1)) (cond (eqb (get_or bytes next 0) 44) (before v (numbers_from l bytes (next + 1) room)) none))
         (eq-eqb (get_or bytes next 0) 10 h)
 
@@ -96,7 +110,7 @@ module _ (l : Line) (bytes : List ℕ) (at room : ℕ) where
         ≡ cond (eqb (get_or bytes next 0) 44) (before v (numbers_from l bytes (next + 1) room)) none
     unfolding behind
     no_newline h =
-        read_with (D.Number v next) e
+        read_with (some_number v next) e
         ∙ ap (λ (t : Bool). cond t (found (v ∷ []) (next + 1)) (cond (eqb (get_or bytes next 0) 44) (before v (numbers_from l bytes (next + 1) room)) none))
         (ne_eqb (get_or bytes next 0) 10 h)
 
@@ -126,7 +140,7 @@ prefixed_before : (vs : List ℕ) (v : ℕ) (f : Found) → prefixed vs (before 
 prefixed_before vs v (found ws next) = ap (λ (l : List ℕ). found l next) (sym (append_assoc vs (v ∷ []) ws))
 prefixed_before vs v none = refl
 
-pub reads_none : (f : Found) (out after : List ℕ) → f ≡ none → Reads f out L.Wrong after
+pub reads_none : (f : Found) (out after : List ℕ) → f ≡ none → Reads f out None after
 reads_none f out after e =
     record {
       answered = sym (ap list_of e);
@@ -134,10 +148,10 @@ reads_none f out after e =
     }
 
 pub reads_found : (f : Found) (out : List ℕ) (count next : ℕ) (after vs : List ℕ) → f ≡ found vs next → count ≡ length vs
-    → after ≡ vs ++ drop (length vs) out → Reads f out (L.Found count next) after
+    → after ≡ vs ++ drop (length vs) out → Reads f out (some_counted count next) after
 reads_found f out count next after vs e n a =
     record {
-      answered = ap (λ (k : ℕ). L.Found k next) n ∙ sym (ap list_of e);
+      answered = ap (λ (k : ℕ). some_counted k next) n ∙ sym (ap list_of e);
       numbers = λ ws m g. let h : found vs next ≡ found ws m = sym e ∙ g in let w : vs ≡ ws = cc in
           a ∙ ap (λ (l : List ℕ). l ++ drop (length l) out) w;
     }
@@ -160,7 +174,7 @@ scan_start l bytes from out =
     }
 
 module _ (l : Line) (bytes : List ℕ) (from : ℕ) (out now : List ℕ) (at count : ℕ) (s : Scan l bytes from out now at count) where
-  pub scan_full : length now ≤ count → Reads (numbers_from l bytes from (length out)) out L.Wrong now
+  pub scan_full : length now ≤ count → Reads (numbers_from l bytes from (length out)) out None now
   scan_full h =
       let k : length out - count ≡ 0 = omega (arith, s.same) in
       reads_none _ out now
@@ -173,10 +187,10 @@ module _ (l : Line) (bytes : List ℕ) (from : ℕ) (out now : List ℕ) (at cou
         let k : length out - count ≡ suc (length out - (count + 1)) = omega (arith, s.same) in
         s.whole ∙ ap (λ (n : ℕ). prefixed (take count now) (numbers_from l bytes at n)) k ∙ ap (prefixed (take count now)) e
 
-    pub scan_wrong : number_at l bytes at ≡ D.Wrong → (after : List ℕ) → Reads (numbers_from l bytes from (length out)) out L.Wrong after
+    pub scan_wrong : number_at l bytes at ≡ None → (after : List ℕ) → Reads (numbers_from l bytes from (length out)) out None after
     scan_wrong e after = reads_none _ out after (step none (numbers-wrong l bytes at (length out - (count + 1)) e))
 
-    module _ (v next : ℕ) (e : number_at l bytes at ≡ D.Number v next) where
+    module _ (v next : ℕ) (e : number_at l bytes at ≡ some_number v next) where
       stored : take (count + 1) (set now count v) ≡ take count now ++ (v ∷ [])
       stored = ap (λ (n : ℕ). take n (set now count v)) (add-one count) ∙ take-suc-set now count v h
 
@@ -189,7 +203,7 @@ module _ (l : Line) (bytes : List ℕ) (from : ℕ) (out now : List ℕ) (at cou
           tail : {x y : ℕ} {xs ys : List ℕ} (a b : List ℕ) → a ≡ b → a ≡ x ∷ xs → b ≡ y ∷ ys → xs ≡ ys
           tail a b p q r = cc
 
-      pub scan_last : get_or bytes next 0 ≡ 10 → Reads (numbers_from l bytes from (length out)) out (L.Found (count + 1) (next + 1)) (set now count v)
+      pub scan_last : get_or bytes next 0 ≡ 10 → Reads (numbers_from l bytes from (length out)) out (some_counted (count + 1) (next + 1)) (set now count v)
       scan_last g =
           let vs = take count now ++ (v ∷ []) in
           let n : length vs ≡ count + 1 = length-append (take count now) (v ∷ []) ∙ omega (arith, length-take-le count now (omega arith)) in
@@ -198,7 +212,7 @@ module _ (l : Line) (bytes : List ℕ) (from : ℕ) (out now : List ℕ) (at cou
           (sym (take-append-drop (count + 1) (set now count v)) ∙ ap₂ (λ (a b : List ℕ). a ++ b) stored (left ∙ ap (λ (k : ℕ). drop k out) (sym n)))
 
       pub scan_other : (get_or bytes next 0 ≡ 10 → ⊥) → (get_or bytes next 0 ≡ 44 → ⊥) → (after : List ℕ)
-          → Reads (numbers_from l bytes from (length out)) out L.Wrong after
+          → Reads (numbers_from l bytes from (length out)) out None after
       scan_other p q after = reads_none _ out after (step none (numbers_other l bytes at (length out - (count + 1)) v next e p q))
 
       pub scan_more : get_or bytes next 0 ≡ 44 → Scan l bytes from out (set now count v) (next + 1) (count + 1)
@@ -213,7 +227,7 @@ module _ (l : Line) (bytes : List ℕ) (from : ℕ) (out now : List ℕ) (at cou
           }
 
 -- ---- a line
-pub reads_as : (f g : Found) (out : List ℕ) (answer : ListRead) (after : List ℕ) → f ≡ g → Reads g out answer after → Reads f out answer after
+pub reads_as : (f g : Found) (out : List ℕ) (answer : Option Counted) (after : List ℕ) → f ≡ g → Reads g out answer after → Reads f out answer after
 reads_as f g out answer after e s = subst (λ (x : Found). Reads x out answer after) (sym e) s
 
 module _ (l : Line) (bytes : List ℕ) (from : ℕ) where
@@ -241,43 +255,42 @@ module _ (l : Line) (bytes : List ℕ) (at : ℕ) where
   list_few h f = newline h ∙ ap (λ (t : Bool). cond t (found [] (at + 1)) none) (ne_eqb l.fewest 0 f)
 
 -- of a line's fields, only two matter to its numbers
-pub numbers_fields : (name : List ℕ) (in_hex : Bool) (largest fewest most : ℕ) (bytes : List ℕ) (room at : ℕ)
-    → numbers_from (line_of name in_hex largest fewest most) bytes at room ≡ numbers_from (line_of [] in_hex largest 0 0) bytes at room
+pub numbers_fields : (name : List ℕ) (kind : Kind) (fewest most : ℕ) (bytes : List ℕ) (room at : ℕ)
+    → numbers_from (line_of name kind fewest most) bytes at room ≡ numbers_from (line_of [] kind 0 0) bytes at room
 unfolding numbers_from behind
-numbers_fields name in_hex largest fewest most bytes zero at =
-    numbers-full (line_of name in_hex largest fewest most) bytes at ∙ sym (numbers-full (line_of [] in_hex largest 0 0) bytes at)
-numbers_fields name in_hex largest fewest most bytes (suc room) at =
-    go (number_at (line_of [] in_hex largest 0 0) bytes at) refl (λ next. numbers_fields name in_hex largest fewest most bytes room next)
+numbers_fields name kind fewest most bytes zero at =
+    numbers-full (line_of name kind fewest most) bytes at ∙ sym (numbers-full (line_of [] kind 0 0) bytes at)
+numbers_fields name kind fewest most bytes (suc room) at =
+    go (number_at (line_of [] kind 0 0) bytes at) refl (λ next. numbers_fields name kind fewest most bytes room next)
   where
-    go : (d : Decimal) → number_at (line_of [] in_hex largest 0 0) bytes at ≡ d
-        → ((next : ℕ) → numbers_from (line_of name in_hex largest fewest most) bytes next room ≡ numbers_from (line_of [] in_hex largest 0 0) bytes next room)
-        → numbers_from (line_of name in_hex largest fewest most) bytes at (suc room) ≡ numbers_from (line_of [] in_hex largest 0 0) bytes at (suc room)
-    go D.Wrong e rest =
-        numbers-wrong (line_of name in_hex largest fewest most) bytes at room e
-        ∙ sym (numbers-wrong (line_of [] in_hex largest 0 0) bytes at room e)
-    go (D.Number v next) e rest =
-        read_with (line_of name in_hex largest fewest most) bytes at room (D.Number v next) e
-        ∙ ap (λ (f : Found). cond (eqb (get_or bytes next 0) 10) (found (v ∷ []) (next + 1)) (cond (eqb (get_or bytes next 0) 44) (before v f) none))
-        (rest (next + 1))
-        ∙ sym (read_with (line_of [] in_hex largest 0 0) bytes at room (D.Number v next) e)
+    go : (d : Option Number) → number_at (line_of [] kind 0 0) bytes at ≡ d
+        → ((next : ℕ) → numbers_from (line_of name kind fewest most) bytes next room ≡ numbers_from (line_of [] kind 0 0) bytes next room)
+        → numbers_from (line_of name kind fewest most) bytes at (suc room) ≡ numbers_from (line_of [] kind 0 0) bytes at (suc room)
+    go None e rest =
+        numbers-wrong (line_of name kind fewest most) bytes at room e
+        ∙ sym (numbers-wrong (line_of [] kind 0 0) bytes at room e)
+    go (Some n) e rest =
+        read_with (line_of name kind fewest most) bytes at room (Some n) e
+        ∙ ap (λ (f : Found). cond (eqb (get_or bytes n.next 0) 10) (found (n.value ∷ []) (n.next + 1)) (cond (eqb (get_or bytes n.next 0) 44) (before n.value f) none))
+        (rest (n.next + 1))
+        ∙ sym (read_with (line_of [] kind 0 0) bytes at room (Some n) e)
 
 -- ---- the line that has one number
 first_of : (vs : List ℕ) → get_or (vs ++ drop (length vs) (0 ∷ [])) 0 0 ≡ get_or vs 0 0
 first_of [] = refl
 first_of (v ∷ vs) = refl
 
-pub one_found : (f : Found) (answer : ListRead) (after : List ℕ) (count next : ℕ) → Reads f (0 ∷ []) answer after → answer ≡ L.Found count next
-    → O.Found (get_or after 0 0) next ≡ one_of f
-one_found (found vs n) answer after count next s e =
-    let k : L.Found (length vs) n ≡ L.Found count next = sym s.answered ∙ e in
-    let m : next ≡ n = cc in
-    ap₂ O.Found (ap (λ (l : List ℕ). get_or l 0 0) (s.numbers vs n refl) ∙ first_of vs) m
-one_found none answer after count next s e =
-    let k : L.Wrong ≡ L.Found count next = sym s.answered ∙ e in
+pub one_found : (f : Found) (answer : Option Counted) (after : List ℕ) (line : Counted) → Reads f (0 ∷ []) answer after → answer ≡ Some line
+    → some_number (get_or after 0 0) line.next ≡ one_of f
+one_found (found vs n) answer after line s e =
+    let m = same_counted (length vs) n line.count line.next (sym s.answered ∙ e) in
+    ap₂ some_number (ap (λ (l : List ℕ). get_or l 0 0) (s.numbers vs n refl) ∙ first_of vs) (sym m.1)
+one_found none answer after line s e =
+    let k : None ≡ Some line = sym s.answered ∙ e in
     let z : ◌≡◌ {A = ℕ} 0 1 = cc in absurd (omega arith)
 
-pub one-wrong : (f : Found) (answer : ListRead) (after : List ℕ) → Reads f (0 ∷ []) answer after → answer ≡ L.Wrong → O.Wrong ≡ one_of f
+pub one-wrong : (f : Found) (answer : Option Counted) (after : List ℕ) → Reads f (0 ∷ []) answer after → answer ≡ None → None ≡ one_of f
 one-wrong (found vs n) answer after s e =
-    let k : L.Found (length vs) n ≡ L.Wrong = sym s.answered ∙ e in
+    let k : some_counted (length vs) n ≡ None = sym s.answered ∙ e in
     let z : ◌≡◌ {A = ℕ} 0 1 = cc in absurd (omega arith)
 one-wrong none answer after s e = refl

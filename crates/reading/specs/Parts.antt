@@ -1,45 +1,54 @@
 -- What the inner functions of the reader answer. Definitions only.
-use Rattle.std.specs.Prelude.{Bool, cond, List, ◌++◌, ◌≡◌, ℕ, ◌≤◌, eqb, length, drop}
-use Rattle.reading.specs.Grammar.{Line, bytes_most, columns_line, values_line}
+use Rattle.std.specs.Prelude.{Bool, true, false, cond, Option, Some, None, Result, Ok, Err, List, ◌++◌, ◌≡◌, ℕ, ◌≤◌, eqb, length, drop}
+use Rattle.digits.specs.declared.Number.{Number}
+use Rattle.reading.specs.Grammar.{Line, largest64, bytes_most, columns_line, values_line}
 use Rattle.reading.specs.ReadLine.{Found, found, none, line_from}
-use Rattle.reading.specs.ReadRun.{Read, run, fault, on_line, one, read_lines, read_lists}
-use Rattle.reading.specs.declared.ListRead.{ListRead}
-use Rattle.reading.specs.declared.ListRead.TheVariants as L
-use Rattle.reading.specs.declared.OneRead.{OneRead}
-use Rattle.reading.specs.declared.OneRead.TheVariants as O
-use Rattle.reading.specs.declared.HeadRead.{HeadRead}
-use Rattle.reading.specs.declared.HeadRead.TheVariants as H
+use Rattle.reading.specs.ReadRun.{Read, run, fault, on_line, one, read_lines, read_lists, record_of}
+use Rattle.reading.specs.declared.Kind.{Kind}
+use Rattle.reading.specs.declared.Kind.TheVariants.{UpTo, Bits}
+use Rattle.reading.specs.declared.Counted.{Counted}
+use Rattle.reading.specs.declared.Head.{Head}
+use Rattle.reading.specs.declared.RunFile.{RunFile}
+
+-- whether the numbers of a kind are hex, and the largest
+abbrev pub kind_in_hex : Kind → Bool
+kind_in_hex (UpTo m) = false
+kind_in_hex Bits = true
+
+abbrev pub kind_largest : Kind → ℕ
+kind_largest (UpTo m) = m
+kind_largest Bits = largest64
 
 -- a line by its fields
-abbrev pub line_of : List ℕ → Bool → ℕ → ℕ → ℕ → Line
-line_of name in_hex largest fewest most = record { name = name; in_hex = in_hex; largest = largest; fewest = fewest; most = most }
+abbrev pub line_of : List ℕ → Kind → ℕ → ℕ → Line
+line_of name kind fewest most = record { name = name; in_hex = kind_in_hex kind; largest = kind_largest kind; fewest = fewest; most = most }
 
 -- how many numbers a line has, and the place behind it
-abbrev pub list_of : Found → ListRead
-list_of (found vs next) = L.Found (length vs) next
-list_of none = L.Wrong
+abbrev pub list_of : Found → Option Counted
+list_of (found vs next) = Some (record { count = length vs; next = next })
+list_of none = None
 
 -- the numbers stand at the front of the lent memory, and behind them it is as it was; where the line is wrong, nothing is said
-pub record Reads (f : Found) (before : List ℕ) (answer : ListRead) (after : List ℕ) : Type 0 where
+pub record Reads (f : Found) (before : List ℕ) (answer : Option Counted) (after : List ℕ) : Type 0 where
   pub answered : answer ≡ list_of f
   pub numbers : (vs : List ℕ) (next : ℕ) → f ≡ found vs next → after ≡ vs ++ drop (length vs) before
 
 -- the only number of a line, and the place behind it
-abbrev pub one_of : Found → OneRead
-one_of (found vs next) = O.Found (one vs) next
-one_of none = O.Wrong
+abbrev pub one_of : Found → Option Number
+one_of (found vs next) = Some (record { value = one vs; next = next })
+one_of none = None
 
 -- what is found once lines 1 to 4 are read
-abbrev pub on_head : List ℕ → HeadRead → Read
-on_head bytes (H.Found head next) = read_lists bytes head.d head.rounds head.degree head.seed next
-on_head bytes (H.Wrong line) = fault line
+abbrev pub on_head : List ℕ → Result Head ℕ → Read
+on_head bytes (Ok head) = read_lists bytes head.d head.rounds head.degree head.seed head.next
+on_head bytes (Err line) = fault line
 
 -- the place behind them
-abbrev pub head_end : HeadRead → ℕ
-head_end (H.Found head next) = next
-head_end (H.Wrong line) = 0
+abbrev pub head_end : Result Head ℕ → ℕ
+head_end (Ok head) = head.next
+head_end (Err line) = 0
 
-pub record ReadsHead (bytes : List ℕ) (answer : HeadRead) : Type 0 where
+pub record ReadsHead (bytes : List ℕ) (answer : Result Head ℕ) : Type 0 where
   pub is : read_lines bytes ≡ on_head bytes answer
   pub inside : head_end answer ≤ length bytes
 
@@ -51,6 +60,11 @@ read_entries bytes d rounds degree seed_std starts at =
     (λ values at7. cond (eqb at7 (length bytes))
     (run (record { d = d; rounds = rounds; degree = degree; seed_std = seed_std; starts = starts; columns = columns; values = values }))
     (fault 8)))
+
+-- the record of a run file, or the line at fault
+abbrev pub outcome_of : Read → Result RunFile ℕ
+outcome_of (run f) = Ok (record_of (run f))
+outcome_of (fault line) = Err line
 
 -- few enough bytes, and a place among them
 pub record Inside (bytes : List ℕ) (at : ℕ) : Type 0 where

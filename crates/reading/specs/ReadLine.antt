@@ -1,10 +1,8 @@
 -- What the reader of a line finds at a place, on any bytes. Definitions only; proofs.Lines shows it sound and complete.
-use Rattle.std.specs.Prelude.{Bool, true, cond, ◌&&◌, List, [], ◌∷◌, ℕ, zero, suc, ◌+◌, eqb, length, get_or}
+use Rattle.std.specs.Prelude.{Bool, true, cond, ◌&&◌, Option, Some, None, List, [], ◌∷◌, ℕ, zero, suc, ◌+◌, eqb, length, get_or}
 use Rattle.digits.specs.ReadDecimal.{read_decimal}
 use Rattle.digits.specs.ReadHex.{read_hex}
-use Rattle.digits.specs.declared.Decimal.{Decimal}
-use Rattle.digits.specs.declared.Decimal.TheVariants.{Number, Wrong}
-use Rattle.digits.specs.declared.Hex as hexes
+use Rattle.digits.specs.declared.Number.{Number}
 use Rattle.reading.specs.Grammar.{Line}
 
 -- the numbers of a line and the place behind it
@@ -13,21 +11,17 @@ pub data Found : Type 0 where
   none : Found
 
 -- one number
-abbrev pub of_hex : hexes.Hex → Decimal
-of_hex (hexes.TheVariants.Bits v next) = Number v next
-of_hex hexes.TheVariants.Wrong = Wrong
-
-abbrev pub number_at : Line → List ℕ → ℕ → Decimal
-number_at l bytes at = cond l.in_hex (of_hex (read_hex bytes at)) (read_decimal bytes at l.largest)
+abbrev pub number_at : Line → List ℕ → ℕ → Option Number
+number_at l bytes at = cond l.in_hex (read_hex bytes at) (read_decimal bytes at l.largest)
 
 -- with a number before
 abbrev pub before : ℕ → Found → Found
 before v (found vs next) = found (v ∷ vs) next
 before v none = none
 
-abbrev pub on_number : Decimal → (ℕ → ℕ → Found) → Found
-on_number (Number v next) go = go v next
-on_number Wrong go = none
+abbrev pub on_number : Option Number → (ℕ → ℕ → Found) → Found
+on_number (Some n) go = go n.value n.next
+on_number None go = none
 
 -- at least one number and at most `room`, by commas, up to a newline; behind the end of the bytes stand zeros
 unfoldable pub numbers_from : Line → List ℕ → ℕ → ℕ → Found

@@ -6,10 +6,10 @@ ghost use Rattle.std.specs.Float.Ieee.{of_bits};
 ghost use Rattle.std.specs.Float.{binary64};
 ghost use Rattle.reading.specs.Grammar.{bytes_most, starts_most, largest32, largest64};
 ghost use Rattle.reading.specs.ReadLine.{number_at, numbers_from, stands_at, line_from};
-ghost use Rattle.reading.specs.ReadRun.{read_run, read_lists, record_of, floats_of, padded, fault};
-ghost use Rattle.reading.specs.Parts.{line_of, Reads, one_of, ReadsHead, read_entries, Inside};
+ghost use Rattle.reading.specs.ReadRun.{read_run, read_lines, read_lists, record_of, floats_of, padded, fault};
+ghost use Rattle.reading.specs.Parts.{line_of, Reads, one_of, ReadsHead, read_entries, outcome_of, Inside};
 
-use digits::{Decimal, Hex};
+use digits::Number;
 
 const BYTES_MOST: usize = 32768;
 
@@ -27,6 +27,7 @@ const LARGEST32: u64 = 0xffff_ffff;
 
 // The numbers of a run file; zeros behind those of each list. Where the bytes are none, only `line` says something: the first line that is
 // wrong, missing, extra or over a size, from 1, or 0 for too many bytes.
+// Flag, line and counts stand beside arrays since it is C's record: `reading_c::reading_read_run` answers it, in fixed memory.
 #[repr(C)]
 #[derive(Clone, Copy)]
 pub struct RunFile {
@@ -44,34 +45,28 @@ pub struct RunFile {
     pub values: [f64; 1024],
 }
 
+// What the numbers of a line are: decimals up to a largest, or the bits of floats in hex.
+#[derive(Clone, Copy)]
+enum Kind {
+    UpTo(u64),
+    Bits,
+}
+
 // How many numbers a line has, and the place behind it.
-#[derive(Drop)]
-enum ListRead {
-    Found(usize, usize),
-    Wrong,
+#[derive(Clone, Copy)]
+struct Counted {
+    count: usize,
+    next: usize,
 }
 
-// The only number of a line, and the place behind it.
-#[derive(Drop)]
-enum OneRead {
-    Found(u64, usize),
-    Wrong,
-}
-
-// The numbers of lines 1 to 4, a float as its bits.
-#[derive(Drop)]
+// The numbers of lines 1 to 4, a float as its bits, and the place behind them.
+#[derive(Clone, Copy)]
 struct Head {
     d: u64,
     rounds: u64,
     degree: u64,
     seed: u64,
-}
-
-// Those and the place behind them, or the line at fault.
-#[derive(Drop)]
-enum HeadRead {
-    Found(Head, usize),
-    Wrong(u64),
+    next: usize,
 }
 
 // ---- a line
@@ -96,108 +91,100 @@ fn stands_at(name: &[u8], bytes: &[u8], at: usize) -> bool
     true
 }
 
-// The number that stands at a place, a decimal or the bits of a float.
-fn number_at(bytes: &[u8], at: usize, in_hex: bool, largest: u64) -> Decimal
-    ensures { result ≡ number_at (line_of [] in_hex largest 0 0) bytes.now at }
-{
-    if in_hex {
-        match digits::read_hex(bytes, at) {
-            Hex::Bits { value, next } => Decimal::Number { value, next },
-            Hex::Wrong => Decimal::Wrong,
+impl Kind {
+    // The number that stands at a place.
+    fn number_at(self, bytes: &[u8], at: usize) -> Option<Number>
+        ensures { result ≡ number_at (line_of [] self 0 0) bytes.now at }
+    {
+        match self {
+            Kind::UpTo(largest) => digits::read_decimal(bytes, at, largest),
+            Kind::Bits => digits::read_hex(bytes, at),
         }
-    } else {
-        digits::read_decimal(bytes, at, largest)
     }
 }
 
 // One number or more, by commas, up to a newline; as many as `out` holds at most.
-fn read_numbers(bytes: &[u8], from: usize, in_hex: bool, largest: u64, out: &mut [u64]) -> ListRead
-    ensures { Reads (numbers_from (line_of [] in_hex largest 0 0) bytes.now from (length out.old)) out.old result out.new }
+fn read_numbers(kind: Kind, bytes: &[u8], from: usize, out: &mut [u64]) -> Option<Counted>
+    ensures { Reads (numbers_from (line_of [] kind 0 0) bytes.now from (length out.old)) out.old result out.new }
 {
     let mut at = from;
-    let mut count = 0;
-    while count < out.len() {
-        let Decimal::Number { value, next } = number_at(bytes, at, in_hex, largest) else {
-            return ListRead::Wrong;
-        };
-        out[count] = value;
-        count += 1;
-        let b = byte_at(bytes, next);
+    for i in 0..out.len() {
+        let number = kind.number_at(bytes, at)?;
+        out[i] = number.value;
+        let b = byte_at(bytes, number.next);
         if b == b'\n' {
-            return ListRead::Found(count, next + 1);
+            return Some(Counted {
+                count: i + 1,
+                next: number.next + 1,
+            });
         }
         if b != b',' {
-            return ListRead::Wrong;
+            return None;
         }
-        at = next + 1;
+        at = number.next + 1;
     }
-    ListRead::Wrong
+    None
 }
 
 // The line that stands at `from`, with `fewest` numbers at least and as many as `out` holds at most.
 fn read_line(
     name: &[u8],
+    kind: Kind,
+    fewest: usize,
     bytes: &[u8],
     from: usize,
-    in_hex: bool,
-    largest: u64,
-    fewest: usize,
     out: &mut [u64],
-) -> ListRead
+) -> Option<Counted>
     requires { Inside bytes.now from × (length name.now ≤ 16) }
-    ensures { Reads (line_from (line_of name.now in_hex largest fewest (length out.old)) bytes.now from) out.old result out.new }
+    ensures { Reads (line_from (line_of name.now kind fewest (length out.old)) bytes.now from) out.old result out.new }
 {
     if !stands_at(name, bytes, from) {
-        return ListRead::Wrong;
+        return None;
     }
     let at = from + name.len();
     if byte_at(bytes, at) != b'\n' {
-        return read_numbers(bytes, at, in_hex, largest, out);
+        return read_numbers(kind, bytes, at, out);
     }
     if fewest != 0 {
-        return ListRead::Wrong;
+        return None;
     }
-    ListRead::Found(0, at + 1)
+    Some(Counted {
+        count: 0,
+        next: at + 1,
+    })
 }
 
 // The line that has one number.
-fn read_one(name: &[u8], bytes: &[u8], from: usize, in_hex: bool, largest: u64) -> OneRead
+fn read_one(name: &[u8], kind: Kind, bytes: &[u8], from: usize) -> Option<Number>
     requires { Inside bytes.now from × (length name.now ≤ 16) }
-    ensures { result ≡ one_of (line_from (line_of name.now in_hex largest 1 1) bytes.now from) }
+    ensures { result ≡ one_of (line_from (line_of name.now kind 1 1) bytes.now from) }
 {
-    let mut numbers = [0u64; 1];
-    match read_line(name, bytes, from, in_hex, largest, 1, &mut numbers) {
-        ListRead::Found(_, next) => OneRead::Found(numbers[0], next),
-        ListRead::Wrong => OneRead::Wrong,
-    }
+    let mut numbers = [0; 1];
+    let line = read_line(name, kind, 1, bytes, from, &mut numbers)?;
+    Some(Number {
+        value: numbers[0],
+        next: line.next,
+    })
 }
 
-// ---- a run file
+// ---- a run file. What is no line of it is answered by its line, from 1.
 
 // Lines 1 to 4.
-fn read_head(bytes: &[u8]) -> HeadRead
+fn read_head(bytes: &[u8]) -> Result<Head, u64>
     requires { length bytes.now ≤ bytes_most }
     ensures { ReadsHead bytes.now result }
 {
-    let OneRead::Found(d, at1) = read_one(b"d=", bytes, 0, false, LARGEST64) else {
-        return HeadRead::Wrong(1);
-    };
-    let OneRead::Found(rounds, at2) = read_one(b"rounds=", bytes, at1, false, ROUNDS_MOST) else {
-        return HeadRead::Wrong(2);
-    };
-    let OneRead::Found(degree, at3) = read_one(b"degree=", bytes, at2, false, LARGEST64) else {
-        return HeadRead::Wrong(3);
-    };
-    let OneRead::Found(seed, next) = read_one(b"seed_std=", bytes, at3, true, LARGEST64) else {
-        return HeadRead::Wrong(4);
-    };
-    let head = Head {
-        d,
-        rounds,
-        degree,
-        seed,
-    };
-    HeadRead::Found(head, next)
+    let d = read_one(b"d=", Kind::UpTo(LARGEST64), bytes, 0).ok_or(1u64)?;
+    let rounds = read_one(b"rounds=", Kind::UpTo(ROUNDS_MOST), bytes, d.next).ok_or(2u64)?;
+    let degree = read_one(b"degree=", Kind::UpTo(LARGEST64), bytes, rounds.next).ok_or(3u64)?;
+    let seed = read_one(b"seed_std=", Kind::Bits, bytes, degree.next).ok_or(4u64)?;
+    Ok(Head {
+        d: d.value,
+        rounds: rounds.value,
+        degree: degree.value,
+        seed: seed.value,
+        next: seed.next,
+    })
 }
 
 // The float of a pattern. The logic has one NaN, and `from_bits` asks that the pattern is none's.
@@ -210,6 +197,7 @@ pub fn value_of(bits: u64) -> f64
     f64::from_bits(bits)
 }
 
+// A loop: with `numbers.map(|n| n as u32)` the check does not prove that each cast fits (tried: `map-requires` stays open).
 fn columns_of(numbers: [u64; 1024]) -> [u32; 1024]
     requires { (i : ℕ) → get_or numbers i 0 ≤ largest32 }
     ensures { result ≡ numbers }
@@ -224,11 +212,7 @@ fn columns_of(numbers: [u64; 1024]) -> [u32; 1024]
 fn values_of(bits: [u64; 1024]) -> [f64; 1024]
     ensures { result ≡ floats_of bits }
 {
-    let mut values = [0.0; 1024];
-    for i in 0..1024 {
-        values[i] = value_of(bits[i]);
-    }
-    values
+    bits.map(value_of)
 }
 
 fn faulty(line: u64) -> RunFile
@@ -251,24 +235,25 @@ fn faulty(line: u64) -> RunFile
 }
 
 // Lines 6 and 7, and nothing behind them. The starts are read: `count` of them, and zeros.
-fn read_entries(bytes: &[u8], head: Head, count: usize, starts: [u64; 65], from: usize) -> RunFile
+fn read_entries(
+    bytes: &[u8],
+    head: Head,
+    count: usize,
+    starts: [u64; 65],
+    from: usize,
+) -> Result<RunFile, u64>
     requires { Inside bytes.now from }
-    ensures { (vs : List ℕ) → count ≡ length vs → starts ≡ padded starts_most vs → result ≡ record_of (read_entries bytes.now head.d head.rounds head.degree head.seed vs from) }
+    ensures { (vs : List ℕ) → count ≡ length vs → starts ≡ padded starts_most vs → result ≡ outcome_of (read_entries bytes.now head.d head.rounds head.degree head.seed vs from) }
 {
-    let mut columns = [0u64; 1024];
-    let line6 = read_line(b"columns=", bytes, from, false, LARGEST32, 0, &mut columns);
-    let ListRead::Found(column_count, at6) = line6 else {
-        return faulty(6);
-    };
-    let mut values = [0u64; 1024];
-    let line7 = read_line(b"values=", bytes, at6, true, LARGEST64, 0, &mut values);
-    let ListRead::Found(value_count, at7) = line7 else {
-        return faulty(7);
-    };
-    if at7 != bytes.len() {
-        return faulty(8);
+    let mut columns = [0; 1024];
+    let kind = Kind::UpTo(LARGEST32);
+    let line6 = read_line(b"columns=", kind, 0, bytes, from, &mut columns).ok_or(6u64)?;
+    let mut values = [0; 1024];
+    let line7 = read_line(b"values=", Kind::Bits, 0, bytes, line6.next, &mut values).ok_or(7u64)?;
+    if line7.next != bytes.len() {
+        return Err(8);
     }
-    RunFile {
+    Ok(RunFile {
         is_right: true,
         line: 0,
         d: head.d,
@@ -276,25 +261,32 @@ fn read_entries(bytes: &[u8], head: Head, count: usize, starts: [u64; 65], from:
         degree: head.degree,
         seed_std: value_of(head.seed),
         start_count: count,
-        column_count,
-        value_count,
+        column_count: line6.count,
+        value_count: line7.count,
         starts,
         columns: columns_of(columns),
         values: values_of(values),
-    }
+    })
 }
 
 // Lines 5 to 7.
-fn read_lists(bytes: &[u8], head: Head, from: usize) -> RunFile
-    requires { Inside bytes.now from }
-    ensures { result ≡ record_of (read_lists bytes.now head.d head.rounds head.degree head.seed from) }
+fn read_lists(bytes: &[u8], head: Head) -> Result<RunFile, u64>
+    requires { Inside bytes.now head.next }
+    ensures { result ≡ outcome_of (read_lists bytes.now head.d head.rounds head.degree head.seed head.next) }
 {
-    let mut starts = [0u64; 65];
-    let line5 = read_line(b"starts=", bytes, from, false, LARGEST64, 0, &mut starts);
-    let ListRead::Found(count, next) = line5 else {
-        return faulty(5);
-    };
-    read_entries(bytes, head, count, starts, next)
+    let mut starts = [0; 65];
+    let kind = Kind::UpTo(LARGEST64);
+    let line5 = read_line(b"starts=", kind, 0, bytes, head.next, &mut starts).ok_or(5u64)?;
+    read_entries(bytes, head, line5.count, starts, line5.next)
+}
+
+// All lines.
+fn read_lines(bytes: &[u8]) -> Result<RunFile, u64>
+    requires { length bytes.now ≤ bytes_most }
+    ensures { result ≡ outcome_of (read_lines bytes.now) }
+{
+    let head = read_head(bytes)?;
+    read_lists(bytes, head)
 }
 
 pub fn read_run(bytes: &[u8]) -> RunFile
@@ -303,8 +295,8 @@ pub fn read_run(bytes: &[u8]) -> RunFile
     if BYTES_MOST < bytes.len() {
         return faulty(0);
     }
-    match read_head(bytes) {
-        HeadRead::Found(head, next) => read_lists(bytes, head, next),
-        HeadRead::Wrong(line) => faulty(line),
+    match read_lines(bytes) {
+        Ok(file) => file,
+        Err(line) => faulty(line),
     }
 }

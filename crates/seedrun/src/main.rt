@@ -2,7 +2,6 @@
 // it read is `text::answer`'s contract; no contract can say what the system reads or writes, so this file is only the way in and out.
 #![tactic(auto)]
 
-use digits::Written;
 use std::io;
 use std::io::Read;
 
@@ -23,14 +22,10 @@ fn write_answer(rt: &(impl Print + Eprint), out: &[u8]) -> io::Result<()> {
 
 fn answer(rt: &(impl Print + Eprint), bytes: &[u8]) -> io::Result<()> {
     let mut out = [0u8; 8192];
-    let written = text::answer(bytes, &mut out);
-    match written {
-        Written::To(end) => {
-            if end <= 8192 {
-                write_answer(rt, &out[..end])?;
-            }
-        }
-        Written::Short => {}
+    if let Some(end) = text::answer(bytes, &mut out)
+        && end <= 8192
+    {
+        write_answer(rt, &out[..end])?;
     }
     Ok(())
 }

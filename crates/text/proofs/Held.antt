@@ -12,8 +12,8 @@ use lib.Seq.{take-append_seam}
 use Rattle.definition.specs.Refusals.{Verdict, refused}
 use Rattle.definition.specs.SpectralEmbedding.{Counts}
 use Rattle.digits.specs.Placed.{put}
-use Rattle.digits.specs.declared.Written.{Written}
-use Rattle.digits.specs.declared.Written.TheVariants.{To, Short}
+use Rattle.std.specs.Prelude.{Some, None}
+use Rattle.std.specs.Option.{unwrap_or}
 use Rattle.files.proofs.Floats.{length_floats, take_floats}
 use Rattle.input.proofs.Verdicts.{test_passes}
 use Rattle.printing.specs.Printed.{refusal_text, room}
@@ -21,7 +21,7 @@ use Rattle.printing.specs.Room.{Leaves}
 use Rattle.printing.specs.Answer as printing
 use Rattle.printing.specs.Answer.{test_answer}
 use Rattle.printing.proofs.Answers.{refusal_tests, refusal-says, answer_left}
-use Rattle.printing.proofs.Leaving.{same_text, put_count}
+use Rattle.printing.proofs.Leaving.{same_text}
 use Rattle.reading.specs.Grammar.{starts_most, entries_most, rounds_most}
 use Rattle.reading.specs.ReadRun.{Read, run, fault, read_run, record_of, floats_of, padded}
 use Rattle.reading.specs.declared.RunFile.{RunFile}
@@ -103,50 +103,27 @@ fault_printed line counts seed out {v} e long left =
 -- ---- what `answer` answers and leaves
 module _ (bytes out : List ℕ) where
   pub answered-text : {text after : List ℕ} {r : ℕ} → room ≤ length out → text ≡ answer_text bytes → (r ≡ length text) × (r ≤ room) × (after ≡ put text 0 out)
-      → (To r ≡ answered bytes out) × (after ≡ placed bytes out)
+      → (Some r ≡ answered bytes out) × (after ≡ placed bytes out)
   unfolding answered placed
   answered-text l e h =
       let fits = le-leb room (length out) l in (
-        ap To (h.0 ∙ ap length e) ∙ sym (ap (λ (b : Bool). cond b (To (length (answer_text bytes))) Short) fits),
+        ap Some (h.0 ∙ ap length e) ∙ sym (ap (λ (b : Bool). cond b (Some (length (answer_text bytes))) None) fits),
         h.2 ∙ ap (λ (t : List ℕ). put t 0 out) e ∙ sym (ap (λ (b : Bool). cond b (put (answer_text bytes) 0 out) out) fits),
       )
 
-  pub answered-short : length out < room → (Short ≡ answered bytes out) × (out ≡ placed bytes out)
+  pub answered-short : length out < room → (None ≡ answered bytes out) × (out ≡ placed bytes out)
   unfolding answered placed
   answered-short l =
       let fits = lt-leb room (length out) l in (
-        sym (ap (λ (b : Bool). cond b (To (length (answer_text bytes))) Short) fits),
+        sym (ap (λ (b : Bool). cond b (Some (length (answer_text bytes))) None) fits),
         sym (ap (λ (b : Bool). cond b (put (answer_text bytes) 0 out) out) fits),
       )
 
   -- the same as a length, 0 for none
-  abbrev length_of : Written → ℕ
-  length_of (To n) = n
-  length_of Short = 0
-
-  length-is : length_of (answered bytes out) ≡ answered_length bytes out
+  pub length-is : unwrap_or (answered bytes out) 0 ≡ answered_length bytes out
   unfolding answered answered_length
   length-is = go (leb room (length out))
     where
-      go : (b : Bool) → length_of (cond b (To (length (answer_text bytes))) Short) ≡ cond b (length (answer_text bytes)) 0
+      go : (b : Bool) → unwrap_or (cond b (Some (length (answer_text bytes))) None) 0 ≡ cond b (length (answer_text bytes)) 0
       go true = refl
       go false = refl
-
-  pub length_to : {n : ℕ} → To n ≡ answered bytes out → n ≡ answered_length bytes out
-  length_to e = ap length_of e ∙ length-is
-
-  pub length_none : Short ≡ answered bytes out → 0 ≡ answered_length bytes out
-  length_none e = ap length_of e ∙ length-is
-
--- ---- the part of the bytes that has the answer
-is_to : Written → Bool
-is_to (To n) = true
-is_to Short = false
-
-pub answered-part : (bytes out : List ℕ) {after : List ℕ} {n : ℕ} → To n ≡ answered bytes out → after ≡ placed bytes out → n ≡ length (take n after)
-unfolding answered placed is_to
-answered-part bytes out {after} {n} e h = go (leb room (length out)) e h
-  where
-    go : (b : Bool) → To n ≡ cond b (To (length (answer_text bytes))) Short → after ≡ cond b (put (answer_text bytes) 0 out) out → n ≡ length (take n after)
-    go true p q = put_count (answer_text bytes) out (ap (length_of bytes out) p) q
-    go false p q = absurd (false≢true (sym (ap is_to p)))

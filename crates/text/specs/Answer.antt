@@ -1,11 +1,9 @@
 -- "The text program": the whole output for the whole input. Definitions only.
-use Rattle.std.specs.Prelude.{cond, List, ℕ, leb, length, take}
+use Rattle.std.specs.Prelude.{cond, Option, Some, None, List, ℕ, leb, length, take}
 use Rattle.std.specs.Float.{binary64}
 use Rattle.std.specs.Float.Ieee.{of_bits}
 use Rattle.definition.specs.Numbers.{Params}
 use Rattle.digits.specs.Placed.{put}
-use Rattle.digits.specs.declared.Written.{Written}
-use Rattle.digits.specs.declared.Written.TheVariants.{To, Short}
 use Rattle.printing.specs.Printed.{refusal_text, room}
 use Rattle.reading.specs.Grammar.{RunNumbers}
 use Rattle.reading.specs.ReadRun.{Read, run, fault, read_run, floats_of}
@@ -30,8 +28,8 @@ unfoldable pub answer_text : List ℕ → List ℕ
 answer_text bytes = answer_for (read_run bytes)
 
 -- ---- what `answer` answers and leaves: the text, where there is room for every text
-unfoldable pub answered : List ℕ → List ℕ → Written
-answered bytes out = cond (leb room (length out)) (To (length (answer_text bytes))) Short
+unfoldable pub answered : List ℕ → List ℕ → Option ℕ
+answered bytes out = cond (leb room (length out)) (Some (length (answer_text bytes))) None
 
 unfoldable pub placed : List ℕ → List ℕ → List ℕ
 placed bytes out = cond (leb room (length out)) (put (answer_text bytes) 0 out) out

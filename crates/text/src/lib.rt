@@ -6,7 +6,6 @@ ghost use Rattle.digits.specs.Placed.{put};
 ghost use Rattle.printing.specs.Printed.{refusal_text, room};
 ghost use Rattle.text.specs.Answer.{answer_held, answered, placed};
 
-use digits::Written;
 use input::SpectralParams;
 use reading::RunFile;
 use state::Counts;
@@ -32,18 +31,12 @@ fn answer_run(file: RunFile, out: &mut [u8]) -> usize
         degree: file.degree,
         seed_std: file.seed_std,
     };
-    let start_count = file.start_count;
-    let column_count = file.column_count;
-    let value_count = file.value_count;
-    let starts = file.starts;
-    let columns = file.columns;
-    let values = file.values;
     answer_graph(
         file.d,
         params,
-        &starts[..start_count],
-        &columns[..column_count],
-        &values[..value_count],
+        &file.starts[..file.start_count],
+        &file.columns[..file.column_count],
+        &file.values[..file.value_count],
         out,
     )
 }
@@ -63,18 +56,16 @@ fn answer_fault(line: u64, out: &mut [u8]) -> usize
     written.length
 }
 
-// The whole output for the whole input. Where `out` has less than ROOM bytes it stays as it is.
-pub fn answer(bytes: &[u8], out: &mut [u8]) -> Written
+// The whole output for the whole input; how many bytes it has. Where `out` has less than ROOM bytes it stays as it is.
+pub fn answer(bytes: &[u8], out: &mut [u8]) -> Option<usize>
     ensures { (result ≡ answered bytes.now out.old) × (out.new ≡ placed bytes.now out.old) }
 {
     if out.len() < ROOM {
-        return Written::Short;
+        return None;
     }
     let file = reading::read_run(bytes);
     if file.is_right {
-        let end = answer_run(file, out);
-        return Written::To(end);
+        return Some(answer_run(file, out));
     }
-    let end = answer_fault(file.line, out);
-    Written::To(end)
+    Some(answer_fault(file.line, out))
 }

@@ -1,4 +1,3 @@
--- Laws for the proofs of this crate's functions: a line's numbers one behind another, and arrays of them.
+-- Laws for the proofs of this crate's functions: a line's numbers one behind another, and the lines of a run.
 mod Lines
-mod Arrays
 mod Runs

@@ -1,79 +1,95 @@
--- A line's numbers, one behind another; and what its text depends on. Assumes nothing.
+-- A line's items, one behind another; and the lines of numbers and of floats. Assumes nothing.
 use mathlib.Core.Path.{◌≡◌, refl, sym, ap, ap₂, ◌∙◌}
 use mathlib.Core.Bool.{Bool, true, false, cond}
 use mathlib.Core.List.{List, [], ◌∷◌, ◌++◌, append_assoc}
 use Prim.Native.Nat.{ℕ, zero, suc, ◌+◌, ◌-◌, ◌≤◌, ◌<◌}
 use native.Mathlib.Numerals.{add-one}
 use native.Mathlib.Omega.{arith}
+use lib.Ieee.{Float, binary64, to_bits}
 use lib.ListN.{length, get_or, take, length-append}
 use lib.Seq.{take-suc, take_all, length-take-le}
 use Rattle.digits.specs.Digits.{decimal, hex}
-use Rattle.reading.specs.Grammar.{Line, number_text, joined, line_text}
-use Rattle.writing.specs.Putting.{line_named, item_text}
+use Rattle.printing.specs.Printed.{bits_text}
+use Rattle.reading.specs.Grammar.{Line, joined, line_text}
+use Rattle.files.specs.RunText.{bits_of}
+use Rattle.writing.specs.Putting.{item_text, joined_by, line_by}
 
--- ---- one number
-pub number-hex : (b : Bool) (v : ℕ) → b ≡ true → number_text (line_named [] b) v ≡ hex v
-number-hex b v e = ap (λ (t : Bool). cond t (hex v) (decimal v)) e
-
-pub number-decimal : (b : Bool) (v : ℕ) → b ≡ false → number_text (line_named [] b) v ≡ decimal v
-number-decimal b v e = ap (λ (t : Bool). cond t (hex v) (decimal v)) e
-
-pub item_first : (l : Line) (v : ℕ) → number_text l v ≡ item_text l 0 v
+-- ---- one item
+pub item_first : (text : List ℕ) → text ≡ item_text 0 text
 unfolding item_text
-item_first l v = refl
+item_first text = refl
 
-pub item_later : (l : Line) (i v : ℕ) → (i ≡ 0 → ⊥) → (44 ∷ []) ++ number_text l v ≡ item_text l i v
+pub item_later : (i : ℕ) (text : List ℕ) → (i ≡ 0 → ⊥) → (44 ∷ []) ++ text ≡ item_text i text
 unfolding item_text
-item_later l zero v h = absurd (h refl)
-item_later l (suc i) v h = refl
+item_later zero text h = absurd (h refl)
+item_later (suc i) text h = refl
 
 -- ---- one more
-module _ (l : Line) where
-  joined-behind : (vs : List ℕ) (w : ℕ) → joined l (vs ++ (w ∷ [])) ≡ joined l vs ++ item_text l (length vs) w
-  unfolding joined item_text
-  joined-behind [] w = refl
-  joined-behind (v ∷ []) w = refl
-  joined-behind (v ∷ u ∷ vs) w =
-      ap (λ (t : List ℕ). number_text l v ++ (44 ∷ t)) (joined-behind (u ∷ vs) w)
-      ∙ sym (append_assoc (number_text l v) (44 ∷ joined l (u ∷ vs)) (item_text l (length (u ∷ vs)) w))
+module _ {A : Type 0} (f : A → List ℕ) where
+  joined-behind : (xs : List A) (y : A) → joined_by f (xs ++ (y ∷ [])) ≡ joined_by f xs ++ item_text (length xs) (f y)
+  unfolding joined_by item_text
+  joined-behind [] y = refl
+  joined-behind (x ∷ []) y = refl
+  joined-behind (x ∷ u ∷ xs) y =
+      ap (λ (t : List ℕ). f x ++ (44 ∷ t)) (joined-behind (u ∷ xs) y)
+      ∙ sym (append_assoc (f x) (44 ∷ joined_by f (u ∷ xs)) (item_text (length (u ∷ xs)) (f y)))
 
-  pub joined-none : (vs : List ℕ) → joined l (take 0 vs) ≡ []
-  unfolding joined
-  joined-none vs = refl
+  pub joined-none : (xs : List A) → joined_by f (take 0 xs) ≡ []
+  unfolding joined_by
+  joined-none xs = refl
 
-  pub joined-more : (vs : List ℕ) (i : ℕ) → i < length vs → joined l (take i vs) ++ item_text l i (get_or vs i 0) ≡ joined l (take (i + 1) vs)
-  joined-more vs i h =
-      ap (λ (n : ℕ). joined l (take i vs) ++ item_text l n (get_or vs i 0)) (sym (length-take-le i vs (omega arith)))
-      ∙ sym (joined-behind (take i vs) (get_or vs i 0)) ∙ ap (joined l) (sym (take-suc vs i 0 h)) ∙ ap (λ (n : ℕ). joined l (take n vs)) (sym (add-one i))
+  joined-more : (xs : List A) (i : ℕ) (d : A) → i < length xs
+      → joined_by f (take i xs) ++ item_text i (f (get_or xs i d)) ≡ joined_by f (take (i + 1) xs)
+  joined-more xs i d h =
+      ap (λ (n : ℕ). joined_by f (take i xs) ++ item_text n (f (get_or xs i d))) (sym (length-take-le i xs (omega arith)))
+      ∙ sym (joined-behind (take i xs) (get_or xs i d)) ∙ ap (joined_by f) (sym (take-suc xs i d h)) ∙ ap (λ (n : ℕ). joined_by f (take n xs)) (sym (add-one i))
 
-  -- the first i numbers are no longer than all
-  part-most : (vs : List ℕ) (k i : ℕ) → i + k ≡ length vs → length (joined l (take i vs)) ≤ length (joined l vs)
-  part-most vs zero i e = omega (arith, ap (λ (us : List ℕ). length (joined l us)) (take_all i vs (omega arith)))
-  part-most vs (suc k) i e =
-      omega (arith, part-most vs k (i + 1) (omega arith), ap length (joined-more vs i (omega arith)), length-append (joined l (take i vs)) (item_text l i (get_or vs i 0)))
+  -- the first i items are no longer than all
+  part-most : (xs : List A) (d : A) (k i : ℕ) → i + k ≡ length xs → length (joined_by f (take i xs)) ≤ length (joined_by f xs)
+  part-most xs d zero i e = omega (arith, ap (λ (us : List A). length (joined_by f us)) (take_all i xs (omega arith)))
+  part-most xs d (suc k) i e =
+      omega (arith, part-most xs d k (i + 1) (omega arith), ap length (joined-more xs i d (omega arith)), length-append (joined_by f (take i xs)) (item_text i (f (get_or xs i d))))
 
-  pub joined-room : (vs : List ℕ) (i : ℕ) → i < length vs → length (joined l (take i vs)) + length (item_text l i (get_or vs i 0)) ≤ length (joined l vs)
-  joined-room vs i h =
-      omega (arith, ap length (joined-more vs i h), length-append (joined l (take i vs)) (item_text l i (get_or vs i 0)), most vs i h)
-    where
-      most : (vs : List ℕ) (i : ℕ) → i < length vs → length (joined l (take (i + 1) vs)) ≤ length (joined l vs)
-      most vs i h = part-most vs (length vs - (i + 1)) (i + 1) (omega arith)
+  joined-room : (xs : List A) (i : ℕ) (d : A) → i < length xs
+      → length (joined_by f (take i xs)) + length (item_text i (f (get_or xs i d))) ≤ length (joined_by f xs)
+  joined-room xs i d h =
+      omega (
+        arith,
+        ap length (joined-more xs i d h),
+        length-append (joined_by f (take i xs)) (item_text i (f (get_or xs i d))),
+        part-most xs d (length xs - (i + 1)) (i + 1) (omega arith),
+      )
 
--- ---- the text of a line depends on its name and on whether it is hex
-joined_alike : (l m : Line) → l.in_hex ≡ m.in_hex → (vs : List ℕ) → joined l vs ≡ joined m vs
-unfolding joined
-joined_alike l m e [] = refl
-joined_alike l m e (v ∷ []) = ap (λ (b : Bool). cond b (hex v) (decimal v)) e
-joined_alike l m e (v ∷ w ∷ vs) =
-    ap₂ (λ (b : Bool) (t : List ℕ). cond b (hex v) (decimal v) ++ (44 ∷ t)) e (joined_alike l m e (w ∷ vs))
+  -- the same for the element x that stands at i
+  pub more-at : (xs : List A) (i : ℕ) (x : A) → i < length xs → x ≡ get_or xs i x
+      → joined_by f (take i xs) ++ item_text i (f x) ≡ joined_by f (take (i + 1) xs)
+  more-at xs i x h e = ap (λ (y : A). joined_by f (take i xs) ++ item_text i (f y)) e ∙ joined-more xs i x h
 
-pub line-parts : (name : List ℕ) (b : Bool) (vs : List ℕ) → name ++ (joined (line_named [] b) vs ++ (10 ∷ [])) ≡ line_text (line_named name b) vs
-line-parts name b vs = ap (λ (t : List ℕ). name ++ (t ++ (10 ∷ []))) (joined_alike (line_named [] b) (line_named name b) refl vs)
+  pub room-at : (xs : List A) (i : ℕ) (x : A) → i < length xs → x ≡ get_or xs i x
+      → length (joined_by f (take i xs)) + length (item_text i (f x)) ≤ length (joined_by f xs)
+  room-at xs i x h e = omega (arith, ap (λ (y : A). length (item_text i (f y))) e, joined-room xs i x h)
 
-pub line_alike : (l : Line) (vs : List ℕ) → line_text (line_named l.name l.in_hex) vs ≡ line_text l vs
-line_alike l vs = ap (λ (t : List ℕ). l.name ++ (t ++ (10 ∷ []))) (joined_alike (line_named l.name l.in_hex) l refl vs)
+  pub line-length : (name : List ℕ) (xs : List A) → length (line_by f name xs) ≡ length name + (length (joined_by f xs) + 1)
+  line-length name xs =
+      length-append name (joined_by f xs ++ (10 ∷ []))
+      ∙ ap (λ (n : ℕ). length name + n) (length-append (joined_by f xs) (10 ∷ []))
 
-pub line-length : (name : List ℕ) (b : Bool) (vs : List ℕ) → length (line_text (line_named name b) vs) ≡ length name + (length (joined (line_named [] b) vs) + 1)
-line-length name b vs =
-    ap length (sym (line-parts name b vs)) ∙ length-append name (joined (line_named [] b) vs ++ (10 ∷ []))
-    ∙ ap (λ (n : ℕ). length name + n) (length-append (joined (line_named [] b) vs) (10 ∷ []))
+-- ---- the lines of a run file: of numbers, and of floats
+joined-decimal : (l : Line) → l.in_hex ≡ false → (vs : List ℕ) → joined_by decimal vs ≡ joined l vs
+unfolding joined joined_by
+joined-decimal l e [] = refl
+joined-decimal l e (v ∷ []) = sym (ap (λ (b : Bool). cond b (hex v) (decimal v)) e)
+joined-decimal l e (v ∷ w ∷ vs) =
+    ap₂ (λ (t u : List ℕ). t ++ (44 ∷ u)) (sym (ap (λ (b : Bool). cond b (hex v) (decimal v)) e)) (joined-decimal l e (w ∷ vs))
+
+joined-bits : (l : Line) → l.in_hex ≡ true → (xs : List Float) → joined_by bits_text xs ≡ joined l (bits_of xs)
+unfolding joined joined_by bits_of
+joined-bits l e [] = refl
+joined-bits l e (x ∷ []) = sym (ap (λ (b : Bool). cond b (bits_text x) (decimal (to_bits binary64 x))) e)
+joined-bits l e (x ∷ y ∷ xs) = ap₂ (λ (t u : List ℕ). t ++ (44 ∷ u)) (sym (ap (λ (b : Bool). cond b (bits_text x) (decimal (to_bits binary64 x))) e)) (joined-bits l e (y ∷ xs))
+
+pub line-decimal : (l : Line) → l.in_hex ≡ false → (vs : List ℕ) → line_by decimal l.name vs ≡ line_text l vs
+line-decimal l e vs = ap (λ (t : List ℕ). l.name ++ (t ++ (10 ∷ []))) (joined-decimal l e vs)
+
+pub line-bits : (l : Line) → l.in_hex ≡ true → (xs : List Float) → line_by bits_text l.name xs ≡ line_text l (bits_of xs)
+line-bits l e xs = ap (λ (t : List ℕ). l.name ++ (t ++ (10 ∷ []))) (joined-bits l e xs)

@@ -1,19 +1,23 @@
 -- What the inner functions of the writer leave. Definitions only.
-use Rattle.std.specs.Prelude.{Bool, List, [], ◌∷◌, ◌≡◌, ℕ, zero, suc, ◌+◌, ◌≤◌, length}
+use Rattle.std.specs.Prelude.{List, [], ◌∷◌, ◌++◌, ◌≡◌, ℕ, zero, suc, ◌+◌, ◌≤◌, length}
 use Rattle.definition.specs.Numbers.{Params}
 use Rattle.digits.specs.Placed.{put}
-use Rattle.reading.specs.Grammar.{Line, number_text, text_up_to}
-use Rattle.reading.specs.Parts.{line_of}
+use Rattle.reading.specs.Grammar.{text_up_to}
 use Rattle.files.specs.RunText.{numbers_of}
 
--- the line of a name, decimal or hex; what numbers it may have doesn't matter to its text
-abbrev pub line_named : List ℕ → Bool → Line
-line_named name in_hex = line_of name in_hex 0 0 0
+-- item i of a line, by its text: behind a comma unless it is the first
+unfoldable pub item_text : ℕ → List ℕ → List ℕ
+item_text zero text = text
+item_text (suc i) text = 44 ∷ text
 
--- number i of a line: behind a comma unless it is the first
-unfoldable pub item_text : Line → ℕ → ℕ → List ℕ
-item_text l zero v = number_text l v
-item_text l (suc i) v = 44 ∷ number_text l v
+-- items by commas, and a line of them, by the text of each
+unfoldable pub joined_by : {A : Type 0} → (A → List ℕ) → List A → List ℕ
+joined_by text [] = []
+joined_by text (x ∷ []) = text x
+joined_by text (x ∷ y ∷ xs) = text x ++ (44 ∷ joined_by text (y ∷ xs))
+
+abbrev pub line_by : {A : Type 0} → (A → List ℕ) → List ℕ → List A → List ℕ
+line_by text name xs = name ++ (joined_by text xs ++ (10 ∷ []))
 
 -- lines 1 to 4
 unfoldable pub head_text : ℕ → Params → List ℕ

@@ -1,12 +1,13 @@
 // The writer of run files: the seven lines of a graph with its parameters, into text that a host lends.
 #![tactic(auto)]
 
-ghost use Rattle.std.specs.Prelude.{◌≡◌, [], ◌∷◌, ◌≤◌, length, take};
+ghost use Rattle.std.specs.Prelude.{◌≡◌, List, ℕ, length};
+ghost use Rattle.digits.specs.Digits.{decimal};
 ghost use Rattle.input.specs.Said.{verdict_of, params_of};
+ghost use Rattle.printing.specs.Printed.{bits_text};
 ghost use Rattle.printing.specs.Room.{Leaves};
-ghost use Rattle.reading.specs.Grammar.{entries_most, columns_line, values_line, number_text, joined, line_text};
-ghost use Rattle.files.specs.RunText.{bits_of, test_sizes, test_file, test_run, test_write, run_text};
-ghost use Rattle.writing.specs.Putting.{line_named, item_text, head_text, Puts, Room};
+ghost use Rattle.files.specs.RunText.{test_sizes, test_file, test_run, test_write, run_text};
+ghost use Rattle.writing.specs.Putting.{item_text, joined_by, line_by, head_text, Puts, Room};
 
 use input::{SpectralParams, Verdict};
 use printing::{WrittenText, put_text, verdict};
@@ -14,116 +15,86 @@ use reading::{ENTRIES_MOST, ROUNDS_MOST, STARTS_MOST};
 
 // ---- a line
 
-// A number, in decimal or as the hex of 64 bits.
-fn put_number(in_hex: bool, v: u64, out: &mut [u8], at: usize) -> usize
-    requires { Room (number_text (line_named [] in_hex) v) at out.old }
-    ensures { Puts (number_text (line_named [] in_hex) v) at out.old result out.new }
-{
-    if in_hex {
-        digits::write_hex(v, out, at);
-        return at + 16;
+// A number of a line.
+trait Item: Copy {
+    // Its text.
+    ghost text: { Self → List ℕ };
+
+    fn put(self, out: &mut [u8], at: usize) -> usize
+        requires { Room (text self) at out.old }
+        ensures { Puts (text self) at out.old result out.new };
+}
+
+impl Item for u64 {
+    ghost text = { decimal };
+
+    fn put(self, out: &mut [u8], at: usize) -> usize {
+        digits::write_decimal(self, out, at).unwrap()
     }
-    digits::write_decimal(v, out, at);
-    at + digits::decimal_length(v)
+}
+
+impl Item for u32 {
+    ghost text = { decimal };
+
+    fn put(self, out: &mut [u8], at: usize) -> usize {
+        u64::from(self).put(out, at)
+    }
+}
+
+// The hex of its bits.
+impl Item for f64 {
+    ghost text = { bits_text };
+
+    fn put(self, out: &mut [u8], at: usize) -> usize {
+        digits::write_hex(printing::bits_of(self), out, at).unwrap()
+    }
 }
 
 // Number i of a line, behind a comma unless it is the first.
-fn put_item(i: usize, in_hex: bool, v: u64, out: &mut [u8], at: usize) -> usize
-    requires { Room (item_text (line_named [] in_hex) i v) at out.old }
-    ensures { Puts (item_text (line_named [] in_hex) i v) at out.old result out.new }
+fn put_item<T: Item>(i: usize, x: T, out: &mut [u8], at: usize) -> usize
+    requires { Room (item_text i (T.text x)) at out.old }
+    ensures { Puts (item_text i (T.text x)) at out.old result out.new }
 {
     if i == 0 {
-        return put_number(in_hex, v, out, at);
+        return x.put(out, at);
     }
     let next = put_text(b",", out, at);
-    put_number(in_hex, v, out, next)
+    x.put(out, next)
 }
 
 // Numbers by commas.
-fn put_numbers(in_hex: bool, numbers: &[u64], out: &mut [u8], at: usize) -> usize
-    requires { Room (joined (line_named [] in_hex) numbers.now) at out.old }
-    ensures { Puts (joined (line_named [] in_hex) numbers.now) at out.old result out.new }
+fn put_numbers<T: Item>(numbers: &[T], out: &mut [u8], at: usize) -> usize
+    requires { Room (joined_by T.text numbers.now) at out.old }
+    ensures { Puts (joined_by T.text numbers.now) at out.old result out.new }
 {
     let mut next = at;
     for i in 0..numbers.len() {
-        next = put_item(i, in_hex, numbers[i], out, next);
+        next = put_item(i, numbers[i], out, next);
     }
     next
 }
 
 // A line: its name, its numbers, a newline.
-fn put_line(name: &[u8], in_hex: bool, numbers: &[u64], out: &mut [u8], at: usize) -> usize
-    requires { Room (line_text (line_named name.now in_hex) numbers.now) at out.old }
-    ensures { Puts (line_text (line_named name.now in_hex) numbers.now) at out.old result out.new }
+fn put_line<T: Item>(name: &[u8], numbers: &[T], out: &mut [u8], at: usize) -> usize
+    requires { Room (line_by T.text name.now numbers.now) at out.old }
+    ensures { Puts (line_by T.text name.now numbers.now) at out.old result out.new }
 {
     let named = put_text(name, out, at);
-    let next = put_numbers(in_hex, numbers, out, named);
+    let next = put_numbers(numbers, out, named);
     put_text(b"\n", out, next)
 }
 
-// The line of one number.
-fn put_one(name: &[u8], in_hex: bool, v: u64, out: &mut [u8], at: usize) -> usize
-    requires { Room (line_text (line_named name.now in_hex) (v ∷ [])) at out.old }
-    ensures { Puts (line_text (line_named name.now in_hex) (v ∷ [])) at out.old result out.new }
-{
-    let numbers = [v];
-    put_line(name, in_hex, &numbers, out, at)
-}
-
 // ---- a run file
-
-// Columns as numbers of 64 bits, at the front.
-fn widened(columns: &[u32]) -> [u64; 1024]
-    requires { length columns.now ≤ entries_most }
-    ensures { take (length columns.now) result ≡ columns.now }
-{
-    let mut numbers = [0u64; 1024];
-    for i in 0..columns.len() {
-        numbers[i] = columns[i] as u64;
-    }
-    numbers
-}
-
-// The bits of values, at the front.
-fn all_bits(values: &[f64]) -> [u64; 1024]
-    requires { length values.now ≤ entries_most }
-    ensures { take (length values.now) result ≡ bits_of values.now }
-{
-    let mut numbers = [0u64; 1024];
-    for i in 0..values.len() {
-        numbers[i] = printing::bits_of(values[i]);
-    }
-    numbers
-}
 
 // Lines 1 to 4, from the first byte on.
 fn put_head(d: u64, params: SpectralParams, out: &mut [u8]) -> usize
     requires { Room (head_text d (params_of params)) 0 out.old }
     ensures { Puts (head_text d (params_of params)) 0 out.old result out.new }
 {
-    let at1 = put_one(b"d=", false, d, out, 0);
-    let at2 = put_one(b"rounds=", false, params.rounds, out, at1);
-    let at3 = put_one(b"degree=", false, params.degree, out, at2);
-    let seed = printing::bits_of(params.seed_std);
-    put_one(b"seed_std=", true, seed, out, at3)
-}
-
-// Line 6.
-fn put_columns(columns: &[u32], out: &mut [u8], at: usize) -> usize
-    requires { Room (line_text columns_line columns.now) at out.old × (length columns.now ≤ entries_most) }
-    ensures { Puts (line_text columns_line columns.now) at out.old result out.new }
-{
-    let numbers = widened(columns);
-    put_line(b"columns=", false, &numbers[..columns.len()], out, at)
-}
-
-// Line 7.
-fn put_values(values: &[f64], out: &mut [u8], at: usize) -> usize
-    requires { Room (line_text values_line (bits_of values.now)) at out.old × (length values.now ≤ entries_most) }
-    ensures { Puts (line_text values_line (bits_of values.now)) at out.old result out.new }
-{
-    let numbers = all_bits(values);
-    put_line(b"values=", true, &numbers[..values.len()], out, at)
+    let at1 = put_line(b"d=", &[d], out, 0);
+    let at2 = put_line(b"rounds=", &[params.rounds], out, at1);
+    let at3 = put_line(b"degree=", &[params.degree], out, at2);
+    put_line(b"seed_std=", &[params.seed_std], out, at3)
 }
 
 // The seven lines, from the first byte on.
@@ -135,14 +106,13 @@ fn put_run(
     values: &[f64],
     out: &mut [u8],
 ) -> usize
-    requires room { Room (run_text d (params_of params) starts.now columns.now values.now) 0 out.old }
-    requires columns_len_bound { (length columns.now ≤ entries_most) × (length values.now ≤ entries_most) }
+    requires { Room (run_text d (params_of params) starts.now columns.now values.now) 0 out.old }
     ensures { Puts (run_text d (params_of params) starts.now columns.now values.now) 0 out.old result out.new }
 {
     let at4 = put_head(d, params, out);
-    let at5 = put_line(b"starts=", false, starts, out, at4);
-    let at6 = put_columns(columns, out, at5);
-    put_values(values, out, at6)
+    let at5 = put_line(b"starts=", starts, out, at4);
+    let at6 = put_line(b"columns=", columns, out, at5);
+    put_line(b"values=", values, out, at6)
 }
 
 // ---- what is refused

@@ -1,16 +1,15 @@
-use native.Mathlib.Omega.{arith}
-use Rattle.digits.specs.Digits.{decimal}
-use Rattle.digits.proofs.Decimals.{decimal-least}
+use mathlib.Core.Path.{sym, ap, ◌∙◌}
+use Prim.Native.Nat.{ℕ, ◌+◌}
+use lib.Dec.{leb}
+use lib.ListN.{length}
 use Rattle.digits.proofs.Putting.{writes_short, writes_to}
 use Rattle.digits.proofs.write_decimal.Goals as goal
 
-pub returns-then-out-at : goal.returns-then-out-at
-returns-then-out-at c = writes_short (decimal c.args.x) c.args.at c.args.out.now (omega (arith, decimal-least c.args.x (omega arith)))
-
-pub returns-then-out-at-2 : goal.returns-then-out-at-2
-returns-then-out-at-2 c = writes_short (decimal c.args.x) c.args.at c.args.out.now (omega (arith, c.decimal_length.ensures))
+pub returns-then-not-has_room : goal.returns-then-not-has_room
+returns-then-not-has_room c =
+    writes_short _ _ _ (ap (λ (n : ℕ). leb (c.args.at + n) (length c.args.out.now)) (sym c.decimal_length.ensures) ∙ sym c.has_room.ensures ∙ c.if-not-has_room.true)
 
 pub returns : goal.returns
 returns c =
-    writes_to (decimal c.args.x) c.args.at c.args.out.now (omega (arith, c.decimal_length.ensures)) _ _
-    c.put_decimal-end.ensures.0 c.put_decimal-end.ensures.1
+    let fits = ap (λ (n : ℕ). leb (c.args.at + n) (length c.args.out.now)) (sym c.decimal_length.ensures) ∙ sym c.has_room.ensures ∙ c.if-not-has_room.false in
+    writes_to _ _ _ fits _ _ c.put_decimal.ensures.0 c.put_decimal.ensures.1

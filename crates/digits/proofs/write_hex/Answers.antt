@@ -1,16 +1,16 @@
-use native.Mathlib.Omega.{arith}
-use Rattle.digits.specs.Digits.{hex}
+use mathlib.Core.Path.{sym, ap, ◌∙◌}
+use Prim.Native.Nat.{ℕ, ◌+◌}
+use lib.Dec.{leb}
+use lib.ListN.{length}
 use Rattle.digits.proofs.Hexes.{hex-length}
 use Rattle.digits.proofs.Putting.{writes_short, writes_to}
 use Rattle.digits.proofs.write_hex.Goals as goal
 
-pub returns-then-out-at : goal.returns-then-out-at
-returns-then-out-at c = writes_short (hex c.args.x) c.args.at c.args.out.now (omega (arith, hex-length 16 c.args.x))
-
-pub returns-then-out-at-lt16 : goal.returns-then-out-at-lt16
-returns-then-out-at-lt16 c = writes_short (hex c.args.x) c.args.at c.args.out.now (omega (arith, hex-length 16 c.args.x))
+pub returns-then-not-has_room : goal.returns-then-not-has_room
+returns-then-not-has_room c =
+    writes_short _ _ _ (ap (λ (n : ℕ). leb (c.args.at + n) (length c.args.out.now)) (hex-length 16 c.args.x) ∙ sym c.has_room.ensures ∙ c.if-not-has_room.true)
 
 pub returns : goal.returns
 returns c =
-    writes_to (hex c.args.x) c.args.at c.args.out.now (omega (arith, hex-length 16 c.args.x)) _ _
-    (omega (arith, hex-length 16 c.args.x)) c.put_hex.ensures
+    let fits = ap (λ (n : ℕ). leb (c.args.at + n) (length c.args.out.now)) (hex-length 16 c.args.x) ∙ sym c.has_room.ensures ∙ c.if-not-has_room.false in
+    writes_to _ _ _ fits _ _ (ap (λ (n : ℕ). c.args.at + n) (sym (hex-length 16 c.args.x))) c.put_hex.ensures

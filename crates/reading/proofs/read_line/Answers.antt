@@ -12,18 +12,18 @@ returns-then-not-stands_at c = reads_none _ _ _ (line-no-name _ _ _ (sym c.stand
 pub returns-then-byte_at-ne10 : goal.returns-then-byte_at-ne10
 returns-then-byte_at-ne10 c =
     let a = c.args in
-    let l = line_of a.name.now a.in_hex a.largest a.fewest (length a.out.now) in
+    let l = line_of a.name.now a.kind a.fewest (length a.out.now) in
     let at = a.from + length a.name.now in
     reads_as _ _ _ _ _
     (line_list l _ _ (sym c.stands_at.ensures ∙ c.if-not-stands_at.false)
     ∙ list_numbers l a.bytes.now at (λ e. c.if-byte_at-ne10.true (c.byte_at.ensures ∙ e))
-    ∙ numbers_fields a.name.now a.in_hex a.largest a.fewest (length a.out.now) a.bytes.now (length a.out.now) at)
+    ∙ numbers_fields a.name.now a.kind a.fewest (length a.out.now) a.bytes.now (length a.out.now) at)
     c.read_numbers.ensures
 
 pub returns-then-fewest-ne0 : goal.returns-then-fewest-ne0
 returns-then-fewest-ne0 c =
     let a = c.args in
-    let l = line_of a.name.now a.in_hex a.largest a.fewest (length a.out.now) in
+    let l = line_of a.name.now a.kind a.fewest (length a.out.now) in
     let at = a.from + length a.name.now in
     reads_none _ _ _
     (line_list l _ _ (sym c.stands_at.ensures ∙ c.if-not-stands_at.false)
@@ -32,7 +32,7 @@ returns-then-fewest-ne0 c =
 pub returns : goal.returns
 returns c =
     let a = c.args in
-    let l = line_of a.name.now a.in_hex a.largest a.fewest (length a.out.now) in
+    let l = line_of a.name.now a.kind a.fewest (length a.out.now) in
     let at = a.from + length a.name.now in
     reads_found _ _ _ _ _ []
     (line_list l _ _ (sym c.stands_at.ensures ∙ c.if-not-stands_at.false)

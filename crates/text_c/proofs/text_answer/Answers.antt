@@ -1,13 +1,12 @@
-use mathlib.Core.Path.{sym, ◌∙◌}
-use Rattle.text.proofs.Held.{length_to, length_none}
+use mathlib.Core.Path.{ap, ◌∙◌}
+use Prim.Native.Nat.{ℕ}
+use Rattle.std.specs.Prelude.{Option}
+use Rattle.std.specs.Option.{unwrap_or}
+use Rattle.text.proofs.Held.{length-is}
 use Rattle.text_c.proofs.text_answer.Goals as goal
 
-pub returns-in-To : goal.returns-in-To
-returns-in-To c =
-    let a = c.args in
-    (length_to a.bytes.now a.out.now (sym c.in-To.is ∙ c.answer-written.ensures.0), c.answer-written.ensures.1)
-
-pub returns-in-Short : goal.returns-in-Short
-returns-in-Short c =
-    let a = c.args in
-    (length_none a.bytes.now a.out.now (sym c.in-Short.is ∙ c.answer-written.ensures.0), c.answer-written.ensures.1)
+pub returns : goal.returns
+returns c = (
+  c.unwrap_or.ensures ∙ ap (λ (o : Option ℕ). unwrap_or o 0) c.answer.ensures.0 ∙ length-is c.args.bytes.now c.args.out.now,
+  c.answer.ensures.1,
+)

@@ -1,6 +1,5 @@
 use native.Mathlib.Omega.{arith}
 use Rattle.files.specs.RunText.{run_text, test_run, test_write}
-use Rattle.files.proofs.Sized.{sized}
 use Rattle.files.proofs.Fits.{text-fits}
 use Rattle.input.specs.Said.{params_of}
 use Rattle.input.proofs.Verdicts.{test_passes}
@@ -19,11 +18,7 @@ put_run-end-requires c =
     let a = c.args in
     let p = params_of a.params in
     let passed = test_passes c.test_run-tested.ensures c.if-tested-ne0.false in
-    let s = sized a.d p a.starts.now a.columns.now a.values.now passed in
-    record {
-      room = omega (arith, text-fits a.d p a.starts.now a.columns.now a.values.now passed, c.blank-text.ensures);
-      columns_len_bound = (s.columns-most, s.values-most);
-    }
+    omega (arith, text-fits a.d p a.starts.now a.columns.now a.values.now passed, c.blank-text.ensures)
 
 pub slice_bounds-text-end : goal.slice_bounds-text-end
 slice_bounds-text-end c =
