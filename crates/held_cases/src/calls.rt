@@ -2,7 +2,7 @@
 use crate::cases::Case;
 use crate::graph::Graph;
 use crate::lists::{Lists, front};
-use input::{SpectralParams, Verdict};
+use input::SpectralParams;
 use state::{Answer, State};
 
 // How many row starts, entries and numbers of the Ritz record a call is lent, and no more than there are.
@@ -11,11 +11,6 @@ pub struct Lent {
     pub starts: usize,
     pub entries: usize,
     pub record: usize,
-}
-
-// Whether a verdict has the number and place that it must.
-pub fn is_verdict(verdict: Verdict, wanted: (u64, u64)) -> bool {
-    (verdict.number, verdict.place) == wanted
 }
 
 // Opening a case with so many dimensions.

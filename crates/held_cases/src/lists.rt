@@ -9,21 +9,36 @@ pub const LENT: f64 = 5.0;
 // Numbers behind those that a run needs, which it must leave alone.
 const BEHIND: usize = 3;
 
-// The lent eleven in their order. They have room for 9,000 rows, eight entries to a row, two dimensions and two rounds, and for what a run
-// must leave alone behind its own numbers. Partials, marks and the Ritz record have room for two runs.
+// The lists have room for 9,000 rows, eight entries to a row, two dimensions and two rounds, and for what a run must leave alone behind its
+// own numbers. Partials, marks and the Ritz record have room for two runs.
+pub const ROWS: usize = 9003;
+
+pub const ENTRIES: usize = 72003;
+
+pub const BLOCK: usize = 90003;
+
+pub const PARTIALS: usize = 606;
+
+pub const MARKS: usize = 12;
+
+pub const OUTPUT: usize = 18003;
+
+pub const RECORD: usize = 50;
+
+// The lent eleven, in their order.
 #[derive(Drop)]
 pub struct Lists {
-    pub inverse: [f64; 9003],
-    pub v0: [f64; 9003],
-    pub edge_columns: [u32; 72003],
-    pub edge_weights: [f64; 72003],
-    pub block0: [f64; 90003],
-    pub block1: [f64; 90003],
-    pub block2: [f64; 90003],
-    pub partials: [f64; 606],
-    pub marks: [u8; 12],
-    pub output: [f64; 18003],
-    pub ritz_record: [f64; 50],
+    pub inverse: [f64; ROWS],
+    pub v0: [f64; ROWS],
+    pub edge_columns: [u32; ENTRIES],
+    pub edge_weights: [f64; ENTRIES],
+    pub block0: [f64; BLOCK],
+    pub block1: [f64; BLOCK],
+    pub block2: [f64; BLOCK],
+    pub partials: [f64; PARTIALS],
+    pub marks: [u8; MARKS],
+    pub output: [f64; OUTPUT],
+    pub ritz_record: [f64; RECORD],
 }
 
 // How many numbers of each lent list are meant: the list of a row's numbers, of an entry's, and so on.

@@ -22,26 +22,27 @@ use report::{Line, Tally};
 use std::io;
 
 fn main(rt: HostRuntime) -> io::Result<()> {
+    // No `new` of each: a function that gave the lists to its caller would have them on the stack twice, which has no room for that.
     let mut graph = Graph {
         number: 0,
         rows: 0,
         entries: 0,
-        starts: [0; 9001],
-        columns: [0; 72000],
-        values: [0.0; 72000],
+        starts: [0; graph::STARTS_MOST],
+        columns: [0; graph::ENTRIES_MOST],
+        values: [0.0; graph::ENTRIES_MOST],
     };
     let mut lists = Lists {
-        inverse: [0.0; 9003],
-        v0: [0.0; 9003],
-        edge_columns: [0; 72003],
-        edge_weights: [0.0; 72003],
-        block0: [0.0; 90003],
-        block1: [0.0; 90003],
-        block2: [0.0; 90003],
-        partials: [0.0; 606],
-        marks: [0; 12],
-        output: [0.0; 18003],
-        ritz_record: [0.0; 50],
+        inverse: [0.0; lists::ROWS],
+        v0: [0.0; lists::ROWS],
+        edge_columns: [0; lists::ENTRIES],
+        edge_weights: [0.0; lists::ENTRIES],
+        block0: [0.0; lists::BLOCK],
+        block1: [0.0; lists::BLOCK],
+        block2: [0.0; lists::BLOCK],
+        partials: [0.0; lists::PARTIALS],
+        marks: [0; lists::MARKS],
+        output: [0.0; lists::OUTPUT],
+        ritz_record: [0.0; lists::RECORD],
     };
     let mut tally = Tally::default();
     for case in cases::CASES {
@@ -52,7 +53,7 @@ fn main(rt: HostRuntime) -> io::Result<()> {
             line.count(whole::ran(case, order, &mut graph, &mut lists));
         }
         println!(rt; "{line}")?;
-        tally.add(line.tally);
+        tally += line.tally;
     }
     println!(rt; "{tally}")
 }

@@ -1,7 +1,10 @@
 // Which call comes next in a run, and what it must answer. A stage is walked in steps of four: three at which a call may be offered that
 // must be refused, and one at which a chunk, or at last closing, must be accepted.
 use crate::damage::Damage;
+use input::Verdict;
+use state::State;
 use std::fmt;
+use std::ops::AddAssign;
 
 // The order of a run's chunks: the odd ones first, with closing offered before each chunk; shuffled anew in each stage, with refused calls
 // of every kind.
@@ -17,6 +20,9 @@ impl Order {
     // Those of the runs that are compared with the upward one.
     pub const LATER: [Order; 3] = [Order::Downward, Order::OddFirst, Order::Shuffled];
 }
+
+// The stages of the passes.
+const PASSES: [usize; 2] = [5, 13];
 
 // The stage of a run that has ended.
 const ENDED: usize = 20;
@@ -49,9 +55,12 @@ pub enum Spoil {
     NoRecord,
 }
 
-// Why a call must be refused: no such chunk; a chunk that is done, or is not; no open run; a state or lists that are not as they must be.
+// Why a call must be refused. An opening: it asks for D = 0, or one of the lent lists is too short. Another call: there is no such chunk; a
+// chunk is done, or is not; no run is open; the state or the lists are not as they must be.
 #[derive(Clone, Copy, PartialEq, Eq, Debug)]
 pub enum Refusal {
+    NoDims,
+    Short(usize),
     NoChunk(usize),
     Done(usize),
     Undone(usize),
@@ -61,14 +70,22 @@ pub enum Refusal {
 
 impl Refusal {
     // Document 01's number and place.
-    pub fn verdict(self) -> (u64, u64) {
+    fn verdict(self) -> (u64, u64) {
         match self {
+            Refusal::NoDims => (1, 0),
+            Refusal::Short(list) => (11, list as u64),
             Refusal::NoChunk(chunk) => (12, chunk as u64),
             Refusal::Done(chunk) => (13, chunk as u64),
             Refusal::Undone(chunk) => (14, chunk as u64),
             Refusal::NotOpen => (15, 0),
             Refusal::Unfit => (16, 0),
         }
+    }
+
+    // Whether a call was refused so, or was accepted where it must be.
+    pub fn is_met(wanted: Option<Self>, verdict: Verdict) -> bool {
+        let (number, place) = wanted.map_or((0, 0), |refusal| refusal.verdict());
+        verdict.number == number && verdict.place == place
     }
 }
 
@@ -115,32 +132,25 @@ impl Call {
         Call { is_watched, ..self }
     }
 
-    // The number and place that it must answer.
-    pub fn verdict(self) -> (u64, u64) {
-        match self.refusal {
-            Some(refusal) => refusal.verdict(),
-            None => (0, 0),
-        }
-    }
-
     pub fn may_change_state(self) -> bool {
         self.target == Target::Closing && self.refusal.is_none()
     }
 }
 
-// Refused calls by their number.
+// Refused calls of open and ended runs, by their number.
 #[derive(Clone, Copy, Default)]
 pub struct Refused {
-    pub by12: usize,
-    pub by13: usize,
-    pub by14: usize,
-    pub by15: usize,
-    pub by16: usize,
+    by12: usize,
+    by13: usize,
+    by14: usize,
+    by15: usize,
+    by16: usize,
 }
 
 impl Refused {
     fn count(&mut self, refusal: Refusal) {
         let counted = match refusal {
+            Refusal::NoDims | Refusal::Short(_) => return,
             Refusal::NoChunk(_) => &mut self.by12,
             Refusal::Done(_) => &mut self.by13,
             Refusal::Undone(_) => &mut self.by14,
@@ -150,20 +160,20 @@ impl Refused {
         *counted = counted.saturating_add(1);
     }
 
-    pub fn plus(self, other: Refused) -> Self {
-        Refused {
-            by12: self.by12.saturating_add(other.by12),
-            by13: self.by13.saturating_add(other.by13),
-            by14: self.by14.saturating_add(other.by14),
-            by15: self.by15.saturating_add(other.by15),
-            by16: self.by16.saturating_add(other.by16),
-        }
-    }
-
     pub fn total(self) -> usize {
         [self.by12, self.by13, self.by14, self.by15, self.by16]
             .iter()
             .fold(0, |sum: usize, x| sum.saturating_add(*x))
+    }
+}
+
+impl AddAssign for Refused {
+    fn add_assign(&mut self, other: Refused) {
+        self.by12 = self.by12.saturating_add(other.by12);
+        self.by13 = self.by13.saturating_add(other.by13);
+        self.by14 = self.by14.saturating_add(other.by14);
+        self.by15 = self.by15.saturating_add(other.by15);
+        self.by16 = self.by16.saturating_add(other.by16);
     }
 }
 
@@ -227,8 +237,9 @@ fn short_record(by: u64) -> Call {
 }
 
 // The first entry's column is read in the passes alone.
-fn bad_edge(entries: usize, stage: usize) -> Option<Call> {
-    if entries == 0 || (stage != 5 && stage != 13) {
+fn bad_edge(state: &State) -> Option<Call> {
+    let is_pass = PASSES.contains(&state.progress.stage);
+    if !is_pass || state.asked.entries == 0 {
         return None;
     }
     let call = Call::refused(Target::Chunk(0), Refusal::Unfit);
@@ -241,10 +252,10 @@ fn bad_edge(entries: usize, stage: usize) -> Option<Call> {
 #[derive(Clone, Copy)]
 pub struct Walk {
     pub order: Order,
-    pub chunks: usize,
-    pub stages: usize,
-    pub step: usize,
-    pub done: u64,
+    chunks: usize,
+    stages: usize,
+    step: usize,
+    done: u64,
     pub accepted: usize,
     pub refused: Refused,
     pub wrong: usize,
@@ -265,7 +276,7 @@ impl Walk {
     }
 
     // The chunk that comes at a turn of a stage.
-    fn chosen(self, turn: usize) -> usize {
+    fn chosen(&self, turn: usize) -> usize {
         match self.order {
             Order::Upward => turn,
             Order::Downward => mirrored(self.chunks, turn),
@@ -275,7 +286,7 @@ impl Walk {
     }
 
     // The call that must be accepted.
-    fn owed(self, turn: usize) -> Call {
+    fn owed(&self, turn: usize) -> Call {
         if turn < self.chunks {
             return Call::accepted(Target::Chunk(self.chosen(turn)));
         }
@@ -283,7 +294,7 @@ impl Walk {
     }
 
     // Closing before all chunks are done.
-    fn early(self, turn: usize) -> Option<Call> {
+    fn early(&self, turn: usize) -> Option<Call> {
         if self.chunks <= turn {
             return None;
         }
@@ -292,13 +303,13 @@ impl Walk {
     }
 
     // The chunk of the turn before, once more.
-    fn again(self, turn: usize) -> Option<Call> {
+    fn again(&self, turn: usize) -> Option<Call> {
         let chunk = self.chosen(turn.checked_sub(1)?);
         Some(Call::refused(Target::Chunk(chunk), Refusal::Done(chunk)))
     }
 
     // Calls that an open run must refuse, by a number.
-    fn drawn(self, turn: usize, by: u64, entries: usize, stage: usize) -> Option<Call> {
+    fn drawn(&self, turn: usize, by: u64, state: &State) -> Option<Call> {
         let damaged = Given::Damaged(Damage::ALL[(by / 16 % 16) as usize]);
         let last = usize::MAX;
         let past = Target::Chunk(self.chunks);
@@ -315,7 +326,7 @@ impl Walk {
             9 => unclosed.with_state(damaged),
             10 => unfit.spoiled(Spoil::Mark),
             11 => unclosed.spoiled(Spoil::Mark),
-            12 => return bad_edge(entries, stage),
+            12 => return bad_edge(state),
             13 => Call::refused(past, Refusal::Unfit).spoiled(Spoil::Starts),
             14 => unclosed.spoiled(Spoil::Starts),
             _ => short_record(by / 16),
@@ -324,7 +335,7 @@ impl Walk {
     }
 
     // A run that has ended refuses every call.
-    fn after_end(self) -> Option<Call> {
+    fn after_end(&self) -> Option<Call> {
         let target = match self.step {
             0 => Target::Chunk(0),
             1 => Target::Chunk(self.chunks),
@@ -335,12 +346,12 @@ impl Walk {
         Some(call.watched(target == Target::Closing))
     }
 
-    fn offered(self, turn: usize, part: usize, entries: usize, stage: usize) -> Option<Call> {
+    fn offered(&self, turn: usize, part: usize, state: &State) -> Option<Call> {
         let by = mixed((self.stages as u64) << 16 ^ self.step as u64);
         match (self.order, part) {
             (Order::OddFirst, 0) => Some(self.early(turn)?.watched(by % 32 == 0)),
             (Order::Shuffled, 0 | 1) => {
-                let call = self.drawn(turn, by, entries, stage)?;
+                let call = self.drawn(turn, by, state)?;
                 Some(call.watched(by / 4096 % 8 == 0))
             }
             _ => None,
@@ -348,19 +359,19 @@ impl Walk {
     }
 
     // The call that comes at the step, where there is one.
-    pub fn planned(self, entries: usize, stage: usize) -> Option<Call> {
-        if stage == ENDED {
+    pub fn planned(&self, state: &State) -> Option<Call> {
+        if state.progress.stage == ENDED {
             return self.after_end();
         }
         let turn = self.step / 4;
         match self.step % 4 {
             3 => Some(self.owed(turn)),
-            part => self.offered(turn, part, entries, stage),
+            part => self.offered(turn, part, state),
         }
     }
 
-    pub fn is_over(self, stage: usize) -> bool {
-        stage == ENDED && STEPS_AFTER <= self.step
+    pub fn is_over(&self, state: &State) -> bool {
+        state.progress.stage == ENDED && STEPS_AFTER <= self.step
     }
 
     // ---- what is counted

@@ -3,6 +3,7 @@ use crate::cases::Case;
 use crate::plan::Refused;
 use crate::whole::End;
 use std::fmt;
+use std::ops::AddAssign;
 
 // Of some runs: how many, their differences, the accepted calls, the refused ones by number, and the looks at the Ritz record with those
 // that were right.
@@ -36,20 +37,20 @@ fn differences_of(case: Case, upward: End, end: End) -> usize {
         counts.refreshed != case.refreshed,
         counts.zeroed != case.zeroed,
         counts.isolated != case.isolated,
-        end.accepted != case.calls(counts.refreshed),
+        end.walk.accepted != case.calls(counts.refreshed),
         end.all != upward.all,
-        end.right != end.accepted.saturating_add(1),
+        end.looks.right != end.walk.accepted.saturating_add(1),
     ];
     let count = differs.iter().filter(|d| **d).count();
-    count.saturating_add(end.wrong)
+    count.saturating_add(end.walk.wrong)
 }
 
-impl Tally {
-    pub fn add(&mut self, other: Tally) {
+impl AddAssign for Tally {
+    fn add_assign(&mut self, other: Tally) {
         self.runs = self.runs.saturating_add(other.runs);
         self.differences = self.differences.saturating_add(other.differences);
         self.accepted = self.accepted.saturating_add(other.accepted);
-        self.refused = self.refused.plus(other.refused);
+        self.refused += other.refused;
         self.looks = self.looks.saturating_add(other.looks);
         self.right = self.right.saturating_add(other.right);
     }
@@ -65,14 +66,14 @@ impl Line {
     }
 
     pub fn count(&mut self, end: End) {
-        self.tally.add(Tally {
+        self.tally += Tally {
             runs: 1,
             differences: differences_of(self.case, self.upward, end),
-            accepted: end.accepted,
-            refused: end.refused,
-            looks: end.looks,
-            right: end.right,
-        });
+            accepted: end.walk.accepted,
+            refused: end.walk.refused,
+            looks: end.looks.made,
+            right: end.looks.right,
+        };
     }
 }
 
@@ -97,7 +98,7 @@ impl fmt::Display for Line {
         write!(
             f,
             "calls={} refused={} ",
-            upward.accepted,
+            upward.walk.accepted,
             tally.refused.total()
         )?;
         match tally.differences {

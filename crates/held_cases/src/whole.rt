@@ -1,19 +1,22 @@
 // A run from its graph to its end: an opening that must be refused, the opening, and the calls, with a stop in the middle at which the lists
 // leave their places and come back. Before each call the Ritz record is looked at, where a call was accepted since the last look.
-use crate::calls::{Lent, is_verdict};
+use crate::calls::Lent;
 use crate::cases::Case;
 use crate::graph::Graph;
 use crate::lists::{Lists, Sizes};
-use crate::plan::{Call, Given, Order, Refused, Spoil, Target, Walk};
+use crate::plan::{Call, Given, Order, Refusal, Spoil, Target, Walk};
 use crate::record::Looks;
 use crate::{calls, digest, record};
 use state::{Answer, Counts, State};
+
+// The Ritz record's place among the lent lists.
+const RITZ_RECORD: usize = 10;
 
 // More steps than a run has.
 const STEPS_MOST: usize = 1000000;
 
 // A run on its way: how much of the lists it is compared by, its state, the one of a refused opening, the walk, and the looks at its record.
-#[derive(Clone, Copy)]
+#[derive(Drop)]
 struct Run {
     case: Case,
     sizes: Sizes,
@@ -23,18 +26,15 @@ struct Run {
     looks: Looks,
 }
 
-// What a run comes to: the oracle's digest of the seed, a digest of the state and all lists, and what was counted: calls, and looks at the
-// Ritz record with those that were right.
+// What a run comes to: the oracle's digest of the seed, a digest of the state and all lists, the state's counts, and what was counted on the
+// walk and in the looks.
 #[derive(Clone, Copy)]
 pub struct End {
     pub digest: u64,
     pub all: u64,
     pub counts: Counts,
-    pub accepted: usize,
-    pub refused: Refused,
-    pub wrong: usize,
-    pub looks: usize,
-    pub right: usize,
+    pub walk: Walk,
+    pub looks: Looks,
 }
 
 // After how many steps a run stops and goes on: between a chunk and the next one of its stage, or closing; never where a list has no room
@@ -79,18 +79,17 @@ fn lack_of_record(order: Order) -> Option<Spoil> {
     }
 }
 
-// The opening that must be refused asks for D = 0, which must meet 1, but where it lends too short a record, which must meet 11 at 10. It
-// answers the empty state.
+// The opening that must be refused asks for D = 0, but where it lends too short a record. It answers the empty state.
 fn refused(case: Case, order: Order, graph: &Graph, lists: &mut Lists) -> Run {
     let lack = lack_of_record(order);
-    let (dims, verdict) = match lack {
-        None => (0, (1, 0)),
-        Some(_) => (case.dims, (11, 10)),
+    let (dims, refusal) = match lack {
+        None => (0, Refusal::NoDims),
+        Some(_) => (case.dims, Refusal::Short(RITZ_RECORD)),
     };
     let lent = lent_to_open(case, order, lack, graph);
     let answer = calls::open(case, dims, lent, graph, lists);
     let mut walk = Walk::new(order, case.chunks());
-    walk.judge(is_verdict(answer.verdict, verdict));
+    walk.judge(Refusal::is_met(Some(refusal), answer.verdict));
     Run {
         case,
         sizes: Sizes::of(case, graph.entries),
@@ -108,17 +107,7 @@ impl Run {
         let lent = lent_to_open(case, self.walk.order, None, graph);
         let answer = calls::open(case, case.dims, lent, graph, lists);
         self.state = answer.state;
-        self.walk.judge(is_verdict(answer.verdict, (0, 0)));
-    }
-
-    fn is_over(&self) -> bool {
-        self.walk.is_over(self.state.progress.stage)
-    }
-
-    // The call that comes next.
-    fn planned(&self) -> Option<Call> {
-        let state = &self.state;
-        self.walk.planned(state.asked.entries, state.progress.stage)
+        self.walk.judge(Refusal::is_met(None, answer.verdict));
     }
 
     // The Ritz record is looked at after the opening, and after each accepted call.
@@ -154,14 +143,13 @@ impl Run {
     }
 
     // A call must answer its verdict, and the state that it was given. An accepted closing alone may answer another one.
-    fn judge(&mut self, call: Call, given: State, answer: Answer) {
-        let is_verdict = is_verdict(answer.verdict, call.verdict());
-        let is_same = digest::of_state(answer.state) == digest::of_state(given);
-        self.walk
-            .judge(is_verdict && (is_same || call.may_change_state()));
+    fn is_right(call: Call, given: State, answer: Answer) -> bool {
+        Refusal::is_met(call.refusal, answer.verdict)
+            && (call.may_change_state()
+                || digest::of_state(answer.state) == digest::of_state(given))
     }
 
-    // A call that is watched must leave the lists as they were.
+    // A call that is watched must leave the lists as they were. A refused one leaves the state as it was.
     fn call(&mut self, call: Call, graph: &Graph, lists: &mut Lists) {
         let sizes = self.sizes;
         let before = call.is_watched.then(|| lists.digest(sizes));
@@ -169,20 +157,19 @@ impl Run {
         lists.spoil(call.spoil);
         let answer = self.answer(call, given, graph, lists);
         lists.spoil(call.spoil);
-        self.judge(call, given, answer);
-        if let Some(digest) = before {
-            self.walk.judge(lists.digest(sizes) == digest);
-        }
+        let is_kept = before.is_none_or(|digest| lists.digest(sizes) == digest);
+        self.walk
+            .judge(is_kept && Run::is_right(call, given, answer));
+        self.walk.count(call);
         if call.refusal.is_none() {
             self.state = answer.state;
         }
-        self.walk.count(call);
     }
 
     // A step, which may have no call.
     fn step(&mut self, graph: &Graph, lists: &mut Lists) {
         self.look(lists);
-        match self.planned() {
+        match self.walk.planned(&self.state) {
             Some(call) => self.call(call, graph, lists),
             None => self.walk.pass(),
         }
@@ -205,11 +192,8 @@ impl Run {
             digest: digest::of_front(&lists.output, self.case.seed()),
             all: digest::with_number(all, digest::of_state(self.state)),
             counts: self.state.counts,
-            accepted: self.walk.accepted,
-            refused: self.walk.refused,
-            wrong: self.walk.wrong,
-            looks: self.looks.made,
-            right: self.looks.right,
+            walk: self.walk,
+            looks: self.looks,
         }
     }
 }
@@ -222,7 +206,7 @@ pub fn ran(case: Case, order: Order, graph: &mut Graph, lists: &mut Lists) -> En
     run.open(graph, lists);
     let stop = steps_first(case, order);
     for steps in 0..STEPS_MOST {
-        if run.is_over() {
+        if run.walk.is_over(&run.state) {
             break;
         }
         if stop == Some(steps) {
