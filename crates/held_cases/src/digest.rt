@@ -79,6 +79,8 @@ pub fn of_state(s: State) -> u64 {
     let d = with_all(d, &[p.current, p.previous]);
     let d = with_all(d, &[p.bound, p.alpha, p.before, p.norm]);
     let d = with_all(d, &[t.passes, t.refreshed, t.zeroed, t.isolated]);
-    let d = with_all(with_all(with_all(d, &s.totals), &s.matrix), &s.vectors);
+    let d = with_all(d, &s.totals);
+    let d = with_all(d, &s.matrix);
+    let d = with_all(d, &s.vectors);
     with_all(d, &s.order)
 }

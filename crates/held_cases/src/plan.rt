@@ -6,8 +6,8 @@ use state::State;
 use std::fmt;
 use std::ops::AddAssign;
 
-// The order of a run's chunks: the odd ones first, with closing offered before each chunk; shuffled anew in each stage, with refused calls
-// of every kind.
+// The order of a run's chunks. Where the odd ones come first, closing is offered before each chunk; where they are shuffled, anew in each
+// stage, calls that must be refused, of every kind, come between them.
 #[derive(Clone, Copy, PartialEq, Eq, Debug)]
 pub enum Order {
     Upward,
@@ -223,15 +223,11 @@ fn bit_of(chunk: usize) -> u64 {
 
 // The Ritz record one number too short, and empty.
 fn short_record(by: u64) -> Call {
-    let target = if by / 2 % 2 == 0 {
-        Target::Chunk(0)
-    } else {
-        Target::Closing
-    };
-    let spoil = if by % 2 == 0 {
-        Spoil::ShortRecord
-    } else {
-        Spoil::NoRecord
+    let (target, spoil) = match by % 4 {
+        0 => (Target::Chunk(0), Spoil::ShortRecord),
+        1 => (Target::Chunk(0), Spoil::NoRecord),
+        2 => (Target::Closing, Spoil::ShortRecord),
+        _ => (Target::Closing, Spoil::NoRecord),
     };
     Call::refused(target, Refusal::Unfit).spoiled(spoil)
 }
@@ -308,7 +304,7 @@ impl Walk {
         Some(Call::refused(Target::Chunk(chunk), Refusal::Done(chunk)))
     }
 
-    // Calls that an open run must refuse, by a number.
+    // A call that an open run must refuse, by a number that is drawn.
     fn drawn(&self, turn: usize, by: u64, state: &State) -> Option<Call> {
         let damaged = Given::Damaged(Damage::ALL[(by / 16 % 16) as usize]);
         let last = usize::MAX;
@@ -346,6 +342,7 @@ impl Walk {
         Some(call.watched(target == Target::Closing))
     }
 
+    // What is offered at a part of a turn, before the call that must be accepted.
     fn offered(&self, turn: usize, part: usize, state: &State) -> Option<Call> {
         let by = mixed((self.stages as u64) << 16 ^ self.step as u64);
         match (self.order, part) {
@@ -381,7 +378,7 @@ impl Walk {
         self.step = self.step.saturating_add(1);
     }
 
-    // On by a call that answered as it must.
+    // On by a call.
     pub fn count(&mut self, call: Call) {
         match (call.refusal, call.target) {
             (Some(refusal), _) => {
