@@ -12,8 +12,8 @@ use state::{Answer, Counts, State};
 // The Ritz record's place among the lent lists.
 const RITZ_RECORD: usize = 10;
 
-// More steps than a run has.
-const STEPS_MOST: usize = 1000000;
+// More steps than a run has, and so few that a run which never ends is soon told.
+const STEPS_MOST: usize = 100000;
 
 // A run on its way: how much of the lists it is compared by, its state, the one of a refused opening, the walk, and the looks at its record.
 #[derive(Drop)]
