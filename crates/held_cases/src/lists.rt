@@ -1,179 +1,153 @@
-// The lists, and what is done to one of them. Nothing here asks for lengths: what does not fit is left out, and a digest shows it.
-ghost use Rattle.std.specs.Prelude.{◌≤◌};
+// The lent lists, and what is done to them. Nothing here asks for lengths: what does not fit is left out, and a digest shows it.
+use crate::cases::Case;
+use crate::digest;
+use crate::plan::Spoil;
 
-use crate::plan;
+// What lists are filled with.
+pub const LENT: f64 = 5.0;
 
-// ---- the lists: the graph's three, then the lent eleven in their order. They have room for 9,000 rows, eight entries to a row, two
-// dimensions and two rounds, and for what a run must leave alone behind its own numbers. Partials, marks and the Ritz record have room
-// for two runs.
-pub const STARTS_MOST: usize = 9001;
+// Numbers behind those that a run needs, which it must leave alone.
+const BEHIND: usize = 3;
 
-pub const ENTRIES_MOST: usize = 72000;
+// The lists have room for 9,000 rows, eight entries to a row, two dimensions and two rounds, and for what a run must leave alone behind its
+// own numbers. Partials, marks and the Ritz record have room for two runs.
+pub const ROWS: usize = 9003;
 
-pub type Starts = [u64; 9001];
+pub const ENTRIES: usize = 72003;
 
-pub type Columns = [u32; 72000];
+pub const BLOCK: usize = 90003;
 
-pub type Values = [f64; 72000];
+pub const PARTIALS: usize = 606;
 
-pub type Rows = [f64; 9003];
+pub const MARKS: usize = 12;
 
-pub type EdgeColumns = [u32; 72003];
+pub const OUTPUT: usize = 18003;
 
-pub type EdgeWeights = [f64; 72003];
+pub const RECORD: usize = 50;
 
-pub type Block = [f64; 90003];
-
-pub type Partials = [f64; 606];
-
-pub type Marks = [u8; 12];
-
-pub type Output = [f64; 18003];
-
-pub type RitzRecord = [f64; 50];
+// The lent eleven, in their order.
+#[derive(Drop)]
+pub struct Lists {
+    pub inverse: [f64; ROWS],
+    pub v0: [f64; ROWS],
+    pub edge_columns: [u32; ENTRIES],
+    pub edge_weights: [f64; ENTRIES],
+    pub block0: [f64; BLOCK],
+    pub block1: [f64; BLOCK],
+    pub block2: [f64; BLOCK],
+    pub partials: [f64; PARTIALS],
+    pub marks: [u8; MARKS],
+    pub output: [f64; OUTPUT],
+    pub ritz_record: [f64; RECORD],
+}
 
 // How many numbers of each lent list are meant: the list of a row's numbers, of an entry's, and so on.
 #[derive(Clone, Copy)]
 pub struct Sizes {
-    pub rows: usize,
-    pub entries: usize,
-    pub block: usize,
-    pub partials: usize,
-    pub marks: usize,
-    pub output: usize,
-    pub record: usize,
+    rows: usize,
+    entries: usize,
+    block: usize,
+    partials: usize,
+    marks: usize,
+    output: usize,
+    record: usize,
 }
 
-// Whole lists.
-pub fn all() -> Sizes {
-    let most = 0xffff_ffff_ffff_ffff;
-    Sizes {
-        rows: most,
-        entries: most,
-        block: most,
-        partials: most,
-        marks: most,
-        output: most,
-        record: most,
-    }
-}
+impl Sizes {
+    // Whole lists.
+    pub const ALL: Sizes = Sizes {
+        rows: usize::MAX,
+        entries: usize::MAX,
+        block: usize::MAX,
+        partials: usize::MAX,
+        marks: usize::MAX,
+        output: usize::MAX,
+        record: usize::MAX,
+    };
 
-// ---- fronts: the first numbers of a list, and the whole of it where it has no more
-
-pub fn front_starts<'a>(list: &'a [u64], count: usize) -> &'a [u64] {
-    if list.len() <= count {
-        return list;
-    }
-    &list[..count]
-}
-
-pub fn front_columns<'a>(list: &'a [u32], count: usize) -> &'a [u32] {
-    if list.len() <= count {
-        return list;
-    }
-    &list[..count]
-}
-
-pub fn front_marks<'a>(list: &'a [u8], count: usize) -> &'a [u8] {
-    if list.len() <= count {
-        return list;
-    }
-    &list[..count]
-}
-
-pub fn front_floats<'a>(list: &'a [f64], count: usize) -> &'a [f64] {
-    if list.len() <= count {
-        return list;
-    }
-    &list[..count]
-}
-
-// No more than a list has: a front that a call writes is lent where the call is made.
-pub fn at_most(count: usize, length: usize) -> usize
-    ensures { result ≤ length }
-{
-    if count < length { count } else { length }
-}
-
-// ---- fills
-
-pub fn fill_floats(list: &mut [f64], x: f64) {
-    for i in 0..list.len() {
-        list[i] = x;
-    }
-}
-
-pub fn fill_columns(list: &mut [u32], x: u32) {
-    for i in 0..list.len() {
-        list[i] = x;
-    }
-}
-
-pub fn fill_marks(list: &mut [u8], x: u8) {
-    for i in 0..list.len() {
-        list[i] = x;
-    }
-}
-
-// ---- a list's front changes places with the front of its second half: what was at the front is elsewhere, and something else stands
-// there. A second change brings it back.
-
-pub fn change_floats(list: &mut [f64], count: usize) {
-    let half = list.len() / 2;
-    for i in 0..count {
-        if half <= i {
-            return;
+    // How much of the lists a run is compared by while it goes on.
+    pub fn of(case: Case, entries: usize) -> Self {
+        let wide = case.wide();
+        let chunks = case.chunks();
+        let square = wide.saturating_mul(wide);
+        Sizes {
+            rows: case.rows.saturating_add(BEHIND),
+            entries: entries.saturating_add(BEHIND),
+            block: case.rows.saturating_mul(wide).saturating_add(BEHIND),
+            partials: chunks.saturating_mul(square).saturating_add(BEHIND),
+            marks: chunks.saturating_add(BEHIND),
+            output: case.seed().saturating_add(BEHIND),
+            record: case.record().saturating_add(BEHIND),
         }
-        let x = list[i];
-        list[i] = list[half + i];
-        list[half + i] = x;
     }
 }
 
-pub fn change_columns(list: &mut [u32], count: usize) {
+// The first numbers of a list, and the whole of it where it has no more.
+pub fn front<T>(list: &[T], count: usize) -> &[T] {
+    list.get(..count).unwrap_or(list)
+}
+
+// A list's front changes places with the front of its second half: what was at the front is elsewhere, and something else stands there.
+// A second change brings it back.
+fn change<T: Drop>(list: &mut [T], count: usize) {
     let half = list.len() / 2;
-    for i in 0..count {
-        if half <= i {
-            return;
+    for i in 0..count.min(half) {
+        list.swap(i, half + i);
+    }
+}
+
+impl Lists {
+    // Nothing is left of the run before.
+    pub fn fill(&mut self) {
+        self.inverse.fill(LENT);
+        self.v0.fill(LENT);
+        self.edge_columns.fill(5);
+        self.edge_weights.fill(LENT);
+        self.block0.fill(LENT);
+        self.block1.fill(LENT);
+        self.block2.fill(LENT);
+        self.partials.fill(LENT);
+        self.marks.fill(5);
+        self.output.fill(LENT);
+        self.ritz_record.fill(LENT);
+    }
+
+    pub fn digest(&self, sizes: Sizes) -> u64 {
+        let d = digest::EMPTY;
+        let d = digest::with_all(d, front(&self.inverse, sizes.rows));
+        let d = digest::with_all(d, front(&self.v0, sizes.rows));
+        let d = digest::with_all(d, front(&self.edge_columns, sizes.entries));
+        let d = digest::with_all(d, front(&self.edge_weights, sizes.entries));
+        let d = digest::with_all(d, front(&self.block0, sizes.block));
+        let d = digest::with_all(d, front(&self.block1, sizes.block));
+        let d = digest::with_all(d, front(&self.block2, sizes.block));
+        let d = digest::with_all(d, front(&self.partials, sizes.partials));
+        let d = digest::with_all(d, front(&self.marks, sizes.marks));
+        let d = digest::with_all(d, front(&self.output, sizes.output));
+        digest::with_all(d, front(&self.ritz_record, sizes.record))
+    }
+
+    // The front of each list is changed for something else.
+    pub fn change(&mut self, sizes: Sizes) {
+        change(&mut self.inverse, sizes.rows);
+        change(&mut self.v0, sizes.rows);
+        change(&mut self.edge_columns, sizes.entries);
+        change(&mut self.edge_weights, sizes.entries);
+        change(&mut self.block0, sizes.block);
+        change(&mut self.block1, sizes.block);
+        change(&mut self.block2, sizes.block);
+        change(&mut self.partials, sizes.partials);
+        change(&mut self.marks, sizes.marks);
+        change(&mut self.output, sizes.output);
+        change(&mut self.ritz_record, sizes.record);
+    }
+
+    // One number spoiled; done once more, it is mended. The first mark becomes 2 or 3, and the first column one near 2^32, that no row has.
+    pub fn spoil(&mut self, spoil: Option<Spoil>) {
+        match spoil {
+            Some(Spoil::Mark) => self.marks[0] ^= 2,
+            Some(Spoil::Edge) => self.edge_columns[0] ^= 0xffff_ffff,
+            _ => {}
         }
-        let x = list[i];
-        list[i] = list[half + i];
-        list[half + i] = x;
     }
-}
-
-pub fn change_marks(list: &mut [u8], count: usize) {
-    let half = list.len() / 2;
-    for i in 0..count {
-        if half <= i {
-            return;
-        }
-        let x = list[i];
-        list[i] = list[half + i];
-        list[half + i] = x;
-    }
-}
-
-// ---- one number spoiled; done once more, it is mended
-
-// A mark becomes 2 or 3.
-pub fn spoil_mark(list: &mut [u8], at: usize, spoiled: u64) {
-    if spoiled != plan::MARK {
-        return;
-    }
-    if list.len() <= at {
-        return;
-    }
-    list[at] = list[at] ^ 2;
-}
-
-// The first column becomes one near 2^32, that no row has.
-pub fn spoil_column(list: &mut [u32], spoiled: u64) {
-    if spoiled != plan::EDGE {
-        return;
-    }
-    if list.len() == 0 {
-        return;
-    }
-    list[0] = list[0] ^ 0xffff_ffff;
 }

@@ -4,77 +4,56 @@
 // call the Ritz record is looked at: the numbers of finished rounds have been written and stay, and all behind them are as they were lent.
 #![tactic(auto)]
 
-mod calls; // calls.rt: a run's calls, and whether each answers what it must
+mod calls; // calls.rt: the held run's calls
 mod cases; // cases.rt: graphs, and the oracle's answers
 mod damage; // damage.rt: states that must be refused
 mod digest; // digest.rt: what runs are compared by
 mod graph; // graph.rt: the graphs of the oracle's rule
-mod lists; // lists.rt: the lists, and what is done to one of them
+mod lists; // lists.rt: the lent lists, and what is done to them
 mod plan; // plan.rt: which call comes next, and what it must answer
 mod record; // record.rt: how far the Ritz record must be written
 mod report; // report.rt: what is counted and printed
-mod tend; // tend.rt: what is done to all lent lists
-mod whole; // whole.rt: the runs, turn by turn
+mod whole; // whole.rt: a run from its graph to its end
 
+use graph::Graph;
+use lists::Lists;
+use plan::Order;
+use report::{Line, Tally};
 use std::io;
 
 fn main(rt: HostRuntime) -> io::Result<()> {
-    let mut starts = [0u64; 9001];
-    let mut columns = [0u32; 72000];
-    let mut values = [0.0; 72000];
-    let mut inverse = [0.0; 9003];
-    let mut v0 = [0.0; 9003];
-    let mut edge_columns = [0u32; 72003];
-    let mut edge_weights = [0.0; 72003];
-    let mut block0 = [0.0; 90003];
-    let mut block1 = [0.0; 90003];
-    let mut block2 = [0.0; 90003];
-    let mut partials = [0.0; 606];
-    let mut marks = [0u8; 12];
-    let mut output = [0.0; 18003];
-    let mut ritz_record = [0.0; 50];
-    let mut book = whole::begun();
-    let mut last = whole::no_answer();
-    let mut left = whole::TURNS_MOST;
-    while 0 < left {
-        let turn = whole::turn_of(book);
-        let tend = turn.tend;
-        let asking = turn.asking;
-        let entries = graph::made_anew(turn, book.entries, &mut starts, &mut columns, &mut values);
-        let found = tend::tended(
-            tend,
-            &mut inverse,
-            &mut v0,
-            &mut edge_columns,
-            &mut edge_weights,
-            &mut block0,
-            &mut block1,
-            &mut block2,
-            &mut partials,
-            &mut marks,
-            &mut output,
-            &mut ritz_record,
-        );
-        last = calls::answered(
-            asking,
-            last,
-            &starts,
-            &columns,
-            &values,
-            &mut inverse,
-            &mut v0,
-            &mut edge_columns,
-            &mut edge_weights,
-            &mut block0,
-            &mut block1,
-            &mut block2,
-            &mut partials,
-            &mut marks,
-            &mut output,
-            &mut ritz_record,
-        );
-        book = whole::after(&rt, book, entries, found, last)?;
-        left = whole::fewer(left, book.number);
+    // No `new` of each: a function that gave the lists to its caller would have them on the stack twice, which has no room for that.
+    let mut graph = Graph {
+        number: 0,
+        rows: 0,
+        entries: 0,
+        starts: [0; graph::STARTS_MOST],
+        columns: [0; graph::ENTRIES_MOST],
+        values: [0.0; graph::ENTRIES_MOST],
+    };
+    let mut lists = Lists {
+        inverse: [0.0; lists::ROWS],
+        v0: [0.0; lists::ROWS],
+        edge_columns: [0; lists::ENTRIES],
+        edge_weights: [0.0; lists::ENTRIES],
+        block0: [0.0; lists::BLOCK],
+        block1: [0.0; lists::BLOCK],
+        block2: [0.0; lists::BLOCK],
+        partials: [0.0; lists::PARTIALS],
+        marks: [0; lists::MARKS],
+        output: [0.0; lists::OUTPUT],
+        ritz_record: [0.0; lists::RECORD],
+    };
+    let mut tally = Tally::default();
+    for case in cases::CASES {
+        let upward = whole::ran(case, Order::Upward, &mut graph, &mut lists);
+        let mut line = Line::new(case, upward);
+        line.count(upward);
+        for order in Order::LATER {
+            line.count(whole::ran(case, order, &mut graph, &mut lists));
+        }
+        println!(rt; "{line}")?;
+        tally += line.tally;
     }
-    report::print_all(&rt, book.tally)
+    println!(rt; "{tally}")
 }

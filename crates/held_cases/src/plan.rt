@@ -1,417 +1,410 @@
 // Which call comes next in a run, and what it must answer. A stage is walked in steps of four: three at which a call may be offered that
 // must be refused, and one at which a chunk, or at last closing, must be accepted.
-//
-// The orders: 0 upward; 1 downward; 2 the odd chunks first, with closing offered before each chunk; 3 shuffled anew in each stage, with
-// refused calls of every kind.
-pub const ORDERS: usize = 4;
+use crate::damage::Damage;
+use input::Verdict;
+use state::State;
+use std::fmt;
+use std::ops::AddAssign;
+
+// The order of a run's chunks. Where the odd ones come first, closing is offered before each chunk; where they are shuffled, anew in each
+// stage, calls that must be refused, of every kind, come between them.
+#[derive(Clone, Copy, PartialEq, Eq, Debug)]
+pub enum Order {
+    Upward,
+    Downward,
+    OddFirst,
+    Shuffled,
+}
+
+impl Order {
+    // Those of the runs that are compared with the upward one.
+    pub const LATER: [Order; 3] = [Order::Downward, Order::OddFirst, Order::Shuffled];
+}
+
+// The stages of the passes.
+const PASSES: [usize; 2] = [5, 13];
 
 // The stage of a run that has ended.
-pub const ENDED: usize = 20;
+const ENDED: usize = 20;
 
 // Steps at which a run that has ended is offered calls.
 const STEPS_AFTER: usize = 3;
 
-// In place of a kind of damage: the state of a refused opening.
-pub const EMPTY_STATE: u64 = 17;
+// What is called: a chunk of the stage at hand, by its number, or closing.
+#[derive(Clone, Copy, PartialEq, Eq, Debug)]
+pub enum Target {
+    Chunk(usize),
+    Closing,
+}
+
+// The state that a call is given: the run's own, the one of a refused opening, or its own with a damage.
+#[derive(Clone, Copy, PartialEq, Eq, Debug)]
+pub enum Given {
+    Own,
+    Empty,
+    Damaged(Damage),
+}
 
 // What is spoiled while a call is made, and mended after it.
-pub const MARK: u64 = 1;
+#[derive(Clone, Copy, PartialEq, Eq, Debug)]
+pub enum Spoil {
+    Mark,
+    Edge,
+    Starts,
+    ShortRecord,
+    NoRecord,
+}
 
-pub const EDGE: u64 = 2;
+// Why a call must be refused. An opening: it asks for D = 0, or one of the lent lists is too short. Another call: there is no such chunk; a
+// chunk is done, or is not; no run is open; the state or the lists are not as they must be.
+#[derive(Clone, Copy, PartialEq, Eq, Debug)]
+pub enum Refusal {
+    NoDims,
+    Short(usize),
+    NoChunk(usize),
+    Done(usize),
+    Undone(usize),
+    NotOpen,
+    Unfit,
+}
 
-pub const STARTS: u64 = 3;
+impl Refusal {
+    // Document 01's number and place.
+    fn verdict(self) -> (u64, u64) {
+        match self {
+            Refusal::NoDims => (1, 0),
+            Refusal::Short(list) => (11, list as u64),
+            Refusal::NoChunk(chunk) => (12, chunk as u64),
+            Refusal::Done(chunk) => (13, chunk as u64),
+            Refusal::Undone(chunk) => (14, chunk as u64),
+            Refusal::NotOpen => (15, 0),
+            Refusal::Unfit => (16, 0),
+        }
+    }
 
-pub const SHORT_RECORD: u64 = 4;
+    // Whether a call was refused so, or was accepted where it must be.
+    pub fn is_met(wanted: Option<Self>, verdict: Verdict) -> bool {
+        let (number, place) = wanted.map_or((0, 0), |refusal| refusal.verdict());
+        verdict.number == number && verdict.place == place
+    }
+}
 
-pub const NO_RECORD: u64 = 5;
-
-// What is called.
-pub const NO_CALL: u64 = 0;
-
-pub const CHUNK: u64 = 1;
-
-pub const CLOSING: u64 = 2;
-
-pub const OPENING: u64 = 3;
-
-// What is called; the chunk's number; the state that it is given (0 the run's own, else a kind of damage); what is spoiled;
-// the refusal that it must meet, with its place; and whether all lists are compared before and after it.
+// A call, the refusal that it must meet, and whether all lists are compared before and after it.
 #[derive(Clone, Copy)]
 pub struct Call {
-    pub kind: u64,
-    pub number: usize,
-    pub given: u64,
-    pub spoiled: u64,
-    pub refusal: u64,
-    pub place: u64,
-    pub watched: bool,
+    pub target: Target,
+    pub given: Given,
+    pub spoil: Option<Spoil>,
+    pub refusal: Option<Refusal>,
+    pub is_watched: bool,
 }
 
-// Refused calls by their number.
-#[derive(Clone, Copy)]
+impl Call {
+    fn accepted(target: Target) -> Self {
+        Call {
+            target,
+            given: Given::Own,
+            spoil: None,
+            refusal: None,
+            is_watched: false,
+        }
+    }
+
+    fn refused(target: Target, refusal: Refusal) -> Self {
+        Call {
+            refusal: Some(refusal),
+            ..Call::accepted(target)
+        }
+    }
+
+    fn with_state(self, given: Given) -> Self {
+        Call { given, ..self }
+    }
+
+    fn spoiled(self, spoil: Spoil) -> Self {
+        Call {
+            spoil: Some(spoil),
+            ..self
+        }
+    }
+
+    fn watched(self, is_watched: bool) -> Self {
+        Call { is_watched, ..self }
+    }
+
+    pub fn may_change_state(self) -> bool {
+        self.target == Target::Closing && self.refusal.is_none()
+    }
+}
+
+// Refused calls of open and ended runs, by their number.
+#[derive(Clone, Copy, Default)]
 pub struct Refused {
-    pub by12: u64,
-    pub by13: u64,
-    pub by14: u64,
-    pub by15: u64,
-    pub by16: u64,
+    by12: usize,
+    by13: usize,
+    by14: usize,
+    by15: usize,
+    by16: usize,
 }
 
-// Where a run is: its order, its number of chunks, stages closed, the step in the stage, the chunks done in it as bits; and what is counted.
-#[derive(Clone, Copy)]
-pub struct Walk {
-    pub order: usize,
-    pub chunks: usize,
-    pub stages: usize,
-    pub step: usize,
-    pub done: u64,
-    pub accepted: u64,
-    pub refused: Refused,
-    pub wrong: u64,
-}
+impl Refused {
+    fn count(&mut self, refusal: Refusal) {
+        let counted = match refusal {
+            Refusal::NoDims | Refusal::Short(_) => return,
+            Refusal::NoChunk(_) => &mut self.by12,
+            Refusal::Done(_) => &mut self.by13,
+            Refusal::Undone(_) => &mut self.by14,
+            Refusal::NotOpen => &mut self.by15,
+            Refusal::Unfit => &mut self.by16,
+        };
+        *counted = counted.saturating_add(1);
+    }
 
-// ---- small numbers
-
-// One more, and no more than 2^32, so that nothing can overflow.
-pub fn raised(x: u64) -> u64 {
-    if x < 0x1_0000_0000 { x + 1 } else { x }
-}
-
-pub fn next(x: usize) -> usize {
-    if x < 0x1_0000_0000 { x + 1 } else { x }
-}
-
-pub fn times(x: usize, y: usize) -> usize {
-    numbers::wrapping_mul(x as u64, y as u64) as usize
-}
-
-pub fn raised_where(is_meant: bool, x: u64) -> u64 {
-    if is_meant { raised(x) } else { x }
-}
-
-fn mixed(x: u64) -> u64 {
-    let a = numbers::wrapping_mul(x ^ 0x9e37_79b9_7f4a_7c15, 0xbf58_476d_1ce4_e5b9);
-    let b = numbers::wrapping_mul(a ^ (a >> 29), 0x94d0_49bb_1331_11eb);
-    b >> 32
-}
-
-// At most four chunks are told apart.
-fn bit_of(chunk: usize) -> u64 {
-    match chunk {
-        0 => 1,
-        1 => 2,
-        2 => 4,
-        _ => 8,
+    pub fn total(self) -> usize {
+        [self.by12, self.by13, self.by14, self.by15, self.by16]
+            .iter()
+            .fold(0, |sum: usize, x| sum.saturating_add(*x))
     }
 }
 
-pub fn lowest_undone(done: u64) -> u64 {
-    if done % 2 == 0 {
-        return 0;
+impl AddAssign for Refused {
+    fn add_assign(&mut self, other: Refused) {
+        self.by12 = self.by12.saturating_add(other.by12);
+        self.by13 = self.by13.saturating_add(other.by13);
+        self.by14 = self.by14.saturating_add(other.by14);
+        self.by15 = self.by15.saturating_add(other.by15);
+        self.by16 = self.by16.saturating_add(other.by16);
     }
-    if done / 2 % 2 == 0 {
-        return 1;
+}
+
+impl fmt::Display for Refused {
+    fn fmt<W: fmt::Write>(&self, f: &mut fmt::Formatter<W>) -> fmt::Result {
+        write!(f, "12={} 13={} 14={} ", self.by12, self.by13, self.by14)?;
+        write!(f, "15={} 16={}", self.by15, self.by16)
     }
-    if done / 4 % 2 == 0 {
-        return 2;
-    }
-    3
 }
 
 // ---- the order of the chunks
+
+fn mixed(x: u64) -> u64 {
+    let a = (x ^ 0x9e37_79b9_7f4a_7c15).wrapping_mul(0xbf58_476d_1ce4_e5b9);
+    let b = (a ^ (a >> 29)).wrapping_mul(0x94d0_49bb_1331_11eb);
+    b >> 32
+}
 
 fn odd_first(chunks: usize, turn: usize) -> usize {
     let odd = chunks / 2;
     if turn < odd {
         return turn * 2 + 1;
     }
-    (turn - odd) % 0x1_0000 * 2
+    (turn - odd).saturating_mul(2)
 }
 
 // Counted from the last chunk.
 fn mirrored(chunks: usize, place: usize) -> usize {
-    if place < chunks {
-        chunks - 1 - place
-    } else {
-        0
-    }
+    chunks.saturating_sub(1).saturating_sub(place)
 }
 
 fn shuffled(chunks: usize, by: u64, turn: usize) -> usize {
-    if chunks == 0 {
-        return 0;
-    }
-    let place = (turn % 0x1_0000 + (by % 0x1_0000) as usize) % chunks;
+    let place = turn.saturating_add((by % 0x1_0000) as usize);
+    let place = place.checked_rem(chunks).unwrap_or(0);
     if by / 0x1_0000 % 2 == 0 {
         return place;
     }
     mirrored(chunks, place)
 }
 
-// The chunk that comes at a turn of a stage.
-fn chosen(w: Walk, turn: usize) -> usize {
-    let order = w.order;
-    let chunks = w.chunks;
-    match order {
-        0 => turn,
-        1 => mirrored(chunks, turn),
-        2 => odd_first(chunks, turn),
-        _ => shuffled(chunks, mixed(w.stages as u64), turn),
-    }
+// At most four chunks are told apart.
+fn bit_of(chunk: usize) -> u64 {
+    1 << chunk.min(3)
 }
 
-// ---- calls
-
-fn no_call() -> Call {
-    Call {
-        kind: NO_CALL,
-        number: 0,
-        given: 0,
-        spoiled: 0,
-        refusal: 0,
-        place: 0,
-        watched: false,
-    }
-}
-
-fn chunk_call(number: usize, refusal: u64, place: u64) -> Call {
-    Call {
-        kind: CHUNK,
-        number,
-        given: 0,
-        spoiled: 0,
-        refusal,
-        place,
-        watched: false,
-    }
-}
-
-fn close_call(refusal: u64, place: u64) -> Call {
-    Call {
-        kind: CLOSING,
-        number: 0,
-        given: 0,
-        spoiled: 0,
-        refusal,
-        place,
-        watched: false,
-    }
-}
-
-fn given(call: Call, kind: u64) -> Call {
-    let mut c = call;
-    c.given = kind;
-    c
-}
-
-fn spoiled(call: Call, what: u64) -> Call {
-    let mut c = call;
-    c.spoiled = what;
-    c
-}
-
-fn watched(call: Call, is_watched: bool) -> Call {
-    let mut c = call;
-    c.watched = is_watched;
-    c
-}
-
-// The call that must be accepted.
-fn owed(w: Walk, turn: usize) -> Call {
-    if turn < w.chunks {
-        return chunk_call(chosen(w, turn), 0, 0);
-    }
-    close_call(0, 0)
-}
-
-// Closing before all chunks are done.
-fn early(w: Walk, turn: usize) -> Call {
-    if turn < w.chunks {
-        return close_call(14, lowest_undone(w.done));
-    }
-    no_call()
-}
-
-// The chunk of the turn before, once more.
-fn again(w: Walk, turn: usize) -> Call {
-    if turn == 0 {
-        return no_call();
-    }
-    let number = chosen(w, turn - 1);
-    chunk_call(number, 13, number as u64)
-}
-
-// The first entry's column is read in the passes alone.
-fn bad_edge(entries: usize, stage: usize) -> Call {
-    if entries == 0 {
-        return no_call();
-    }
-    match stage {
-        5 | 13 => spoiled(chunk_call(0, 16, 0), EDGE),
-        _ => no_call(),
-    }
-}
+// ---- refused calls
 
 // The Ritz record one number too short, and empty.
 fn short_record(by: u64) -> Call {
-    match by % 4 {
-        0 => spoiled(chunk_call(0, 16, 0), SHORT_RECORD),
-        1 => spoiled(chunk_call(0, 16, 0), NO_RECORD),
-        2 => spoiled(close_call(16, 0), SHORT_RECORD),
-        _ => spoiled(close_call(16, 0), NO_RECORD),
-    }
-}
-
-// Calls that an open run must refuse, by a number.
-fn offered(w: Walk, turn: usize, by: u64, entries: usize, stage: usize) -> Call {
-    let kind = by / 16 % crate::damage::KINDS + 1;
-    let chunks = w.chunks;
-    match by % 16 {
-        0 => chunk_call(chunks, 12, chunks as u64),
-        1 => chunk_call(0xffff_ffff_ffff_ffff, 12, 0xffff_ffff_ffff_ffff),
-        2 | 3 => again(w, turn),
-        4 => early(w, turn),
-        5 => given(chunk_call(0, 15, 0), EMPTY_STATE),
-        6 => given(close_call(15, 0), EMPTY_STATE),
-        7 | 8 => given(chunk_call(0, 16, 0), kind),
-        9 => given(close_call(16, 0), kind),
-        10 => spoiled(chunk_call(0, 16, 0), MARK),
-        11 => spoiled(close_call(16, 0), MARK),
-        12 => bad_edge(entries, stage),
-        13 => spoiled(chunk_call(chunks, 16, 0), STARTS),
-        14 => spoiled(close_call(16, 0), STARTS),
-        _ => short_record(by / 16),
-    }
-}
-
-// A run that has ended refuses every call.
-fn after_end(w: Walk) -> Call {
-    let step = w.step;
-    match step {
-        0 => chunk_call(0, 15, 0),
-        1 => chunk_call(w.chunks, 15, 0),
-        2 => watched(close_call(15, 0), true),
-        _ => no_call(),
-    }
-}
-
-fn offer(w: Walk, turn: usize, part: usize, entries: usize, stage: usize) -> Call {
-    let order = w.order;
-    let by = mixed((w.stages as u64) << 16 ^ w.step as u64);
-    if order == 2 {
-        if part == 0 {
-            return watched(early(w, turn), by % 32 == 0);
-        }
-        return no_call();
-    }
-    if order == 3 {
-        if part < 2 {
-            return watched(offered(w, turn, by, entries, stage), by / 4096 % 8 == 0);
-        }
-    }
-    no_call()
-}
-
-pub fn planned(w: Walk, entries: usize, stage: usize) -> Call {
-    if stage == ENDED {
-        return after_end(w);
-    }
-    let turn = w.step / 4;
-    let part = w.step % 4;
-    if part == 3 {
-        return owed(w, turn);
-    }
-    offer(w, turn, part, entries, stage)
-}
-
-pub fn is_over(w: Walk, stage: usize) -> bool {
-    if stage != ENDED {
-        return false;
-    }
-    STEPS_AFTER <= w.step
-}
-
-// ---- what is counted
-
-fn with_refusal(r: Refused, number: u64) -> Refused {
-    let mut s = r;
-    match number {
-        12 => {
-            s.by12 = raised(r.by12);
-            s
-        }
-        13 => {
-            s.by13 = raised(r.by13);
-            s
-        }
-        14 => {
-            s.by14 = raised(r.by14);
-            s
-        }
-        15 => {
-            s.by15 = raised(r.by15);
-            s
-        }
-        _ => {
-            s.by16 = raised(r.by16);
-            s
-        }
-    }
-}
-
-pub fn begun(order: usize, chunks: usize) -> Walk {
-    let refused = Refused {
-        by12: 0,
-        by13: 0,
-        by14: 0,
-        by15: 0,
-        by16: 0,
+    let (target, spoil) = match by % 4 {
+        0 => (Target::Chunk(0), Spoil::ShortRecord),
+        1 => (Target::Chunk(0), Spoil::NoRecord),
+        2 => (Target::Closing, Spoil::ShortRecord),
+        _ => (Target::Closing, Spoil::NoRecord),
     };
-    Walk {
-        order,
-        chunks,
-        stages: 0,
-        step: 0,
-        done: 0,
-        accepted: 0,
-        refused,
-        wrong: 0,
+    Call::refused(target, Refusal::Unfit).spoiled(spoil)
+}
+
+// The first entry's column is read in the passes alone.
+fn bad_edge(state: &State) -> Option<Call> {
+    let is_pass = PASSES.contains(&state.progress.stage);
+    if !is_pass || state.asked.entries == 0 {
+        return None;
     }
+    let call = Call::refused(Target::Chunk(0), Refusal::Unfit);
+    Some(call.spoiled(Spoil::Edge))
 }
 
-// On by a step at which no call was made, or a call was refused.
-pub fn stepped(w: Walk) -> Walk {
-    let mut v = w;
-    v.step = next(w.step);
-    v
+// ---- the walk
+
+// Where a run is: its order, its number of chunks, stages closed, the step in the stage, the chunks done in it as bits; and what is counted.
+#[derive(Clone, Copy)]
+pub struct Walk {
+    pub order: Order,
+    chunks: usize,
+    stages: usize,
+    step: usize,
+    done: u64,
+    pub accepted: usize,
+    pub refused: Refused,
+    pub wrong: usize,
 }
 
-pub fn after_refused(w: Walk, number: u64) -> Walk {
-    let mut v = stepped(w);
-    let refused = w.refused;
-    v.refused = with_refusal(refused, number);
-    v
-}
+impl Walk {
+    pub fn new(order: Order, chunks: usize) -> Self {
+        Walk {
+            order,
+            chunks,
+            stages: 0,
+            step: 0,
+            done: 0,
+            accepted: 0,
+            refused: Refused::default(),
+            wrong: 0,
+        }
+    }
 
-pub fn after_chunk(w: Walk, number: usize) -> Walk {
-    let mut v = stepped(w);
-    v.done = w.done | bit_of(number);
-    v.accepted = raised(w.accepted);
-    v
-}
+    // The chunk that comes at a turn of a stage.
+    fn chosen(&self, turn: usize) -> usize {
+        match self.order {
+            Order::Upward => turn,
+            Order::Downward => mirrored(self.chunks, turn),
+            Order::OddFirst => odd_first(self.chunks, turn),
+            Order::Shuffled => shuffled(self.chunks, mixed(self.stages as u64), turn),
+        }
+    }
 
-// The next stage begins with nothing done.
-pub fn after_close(w: Walk) -> Walk {
-    let mut v = w;
-    v.stages = next(w.stages);
-    v.step = 0;
-    v.done = 0;
-    v.accepted = raised(w.accepted);
-    v
-}
+    // The call that must be accepted.
+    fn owed(&self, turn: usize) -> Call {
+        if turn < self.chunks {
+            return Call::accepted(Target::Chunk(self.chosen(turn)));
+        }
+        Call::accepted(Target::Closing)
+    }
 
-pub fn judged(w: Walk, is_wrong: bool) -> Walk {
-    let mut v = w;
-    v.wrong = raised_where(is_wrong, w.wrong);
-    v
+    // Closing before all chunks are done.
+    fn early(&self, turn: usize) -> Option<Call> {
+        if self.chunks <= turn {
+            return None;
+        }
+        let undone = self.done.trailing_ones() as usize;
+        Some(Call::refused(Target::Closing, Refusal::Undone(undone)))
+    }
+
+    // The chunk of the turn before, once more.
+    fn again(&self, turn: usize) -> Option<Call> {
+        let chunk = self.chosen(turn.checked_sub(1)?);
+        Some(Call::refused(Target::Chunk(chunk), Refusal::Done(chunk)))
+    }
+
+    // A call that an open run must refuse, by a number that is drawn.
+    fn drawn(&self, turn: usize, by: u64, state: &State) -> Option<Call> {
+        let damaged = Given::Damaged(Damage::ALL[(by / 16 % 16) as usize]);
+        let last = usize::MAX;
+        let past = Target::Chunk(self.chunks);
+        let unfit = Call::refused(Target::Chunk(0), Refusal::Unfit);
+        let unclosed = Call::refused(Target::Closing, Refusal::Unfit);
+        let call = match by % 16 {
+            0 => Call::refused(past, Refusal::NoChunk(self.chunks)),
+            1 => Call::refused(Target::Chunk(last), Refusal::NoChunk(last)),
+            2 | 3 => return self.again(turn),
+            4 => return self.early(turn),
+            5 => Call::refused(Target::Chunk(0), Refusal::NotOpen).with_state(Given::Empty),
+            6 => Call::refused(Target::Closing, Refusal::NotOpen).with_state(Given::Empty),
+            7 | 8 => unfit.with_state(damaged),
+            9 => unclosed.with_state(damaged),
+            10 => unfit.spoiled(Spoil::Mark),
+            11 => unclosed.spoiled(Spoil::Mark),
+            12 => return bad_edge(state),
+            13 => Call::refused(past, Refusal::Unfit).spoiled(Spoil::Starts),
+            14 => unclosed.spoiled(Spoil::Starts),
+            _ => short_record(by / 16),
+        };
+        Some(call)
+    }
+
+    // A run that has ended refuses every call.
+    fn after_end(&self) -> Option<Call> {
+        let target = match self.step {
+            0 => Target::Chunk(0),
+            1 => Target::Chunk(self.chunks),
+            2 => Target::Closing,
+            _ => return None,
+        };
+        let call = Call::refused(target, Refusal::NotOpen);
+        Some(call.watched(target == Target::Closing))
+    }
+
+    // What is offered at a part of a turn, before the call that must be accepted.
+    fn offered(&self, turn: usize, part: usize, state: &State) -> Option<Call> {
+        let by = mixed((self.stages as u64) << 16 ^ self.step as u64);
+        match (self.order, part) {
+            (Order::OddFirst, 0) => Some(self.early(turn)?.watched(by % 32 == 0)),
+            (Order::Shuffled, 0 | 1) => {
+                let call = self.drawn(turn, by, state)?;
+                Some(call.watched(by / 4096 % 8 == 0))
+            }
+            _ => None,
+        }
+    }
+
+    // The call that comes at the step, where there is one.
+    pub fn planned(&self, state: &State) -> Option<Call> {
+        if state.progress.stage == ENDED {
+            return self.after_end();
+        }
+        let turn = self.step / 4;
+        match self.step % 4 {
+            3 => Some(self.owed(turn)),
+            part => self.offered(turn, part, state),
+        }
+    }
+
+    pub fn is_over(&self, state: &State) -> bool {
+        state.progress.stage == ENDED && STEPS_AFTER <= self.step
+    }
+
+    // ---- what is counted
+
+    // On by a step at which no call was made, or a call was refused.
+    pub fn pass(&mut self) {
+        self.step = self.step.saturating_add(1);
+    }
+
+    // On by a call.
+    pub fn count(&mut self, call: Call) {
+        match (call.refusal, call.target) {
+            (Some(refusal), _) => {
+                self.refused.count(refusal);
+                self.pass();
+            }
+            (None, Target::Chunk(chunk)) => {
+                self.done |= bit_of(chunk);
+                self.accepted = self.accepted.saturating_add(1);
+                self.pass();
+            }
+            (None, Target::Closing) => self.close(),
+        }
+    }
+
+    // The next stage begins with nothing done.
+    fn close(&mut self) {
+        self.stages = self.stages.saturating_add(1);
+        self.step = 0;
+        self.done = 0;
+        self.accepted = self.accepted.saturating_add(1);
+    }
+
+    pub fn judge(&mut self, is_right: bool) {
+        if !is_right {
+            self.wrong = self.wrong.saturating_add(1);
+        }
+    }
 }

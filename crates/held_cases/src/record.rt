@@ -1,8 +1,8 @@
 // The Ritz record of a run on its way: how far it must be written, and what looks at it have seen.
 use crate::cases::Case;
-use crate::tend::Look;
-use crate::{digest, plan};
-use input::SpectralParams;
+use crate::digest;
+use crate::lists::LENT;
+use state::Progress;
 
 // The stage that writes a round's numbers as it closes.
 const PRODUCTS: usize = 14;
@@ -13,56 +13,48 @@ const PRODUCTS: usize = 14;
 pub struct Looks {
     pub kept: usize,
     pub digest: u64,
-    pub made: u64,
-    pub right: u64,
+    pub made: usize,
+    pub right: usize,
 }
 
-pub fn no_looks() -> Looks {
-    Looks {
-        kept: 0,
-        digest: digest::EMPTY,
-        made: 0,
-        right: 0,
+// As many numbers as are of rounds whose products have closed. In the stages after the last round the state still has that round's number.
+pub fn finished(case: Case, progress: Progress) -> usize {
+    if PRODUCTS < progress.stage {
+        return case.record();
     }
+    case.record_of(progress.round)
 }
 
-// k, document 01's width of a block.
-pub fn wide(case: Case) -> usize {
-    std::num::wrapping_add_usize(case.dims as usize, SpectralParams::OVERSAMPLING)
+// Every number of the first `finished` is written, and none behind them. A run does not write the number that lists are filled with: a
+// bound is below 1, and no Ritz value of these graphs is far above it.
+fn is_so_far(list: &[f64], finished: usize) -> bool {
+    list.iter()
+        .enumerate()
+        .all(|(i, x)| (*x != LENT) == (i < finished))
 }
 
-// A round's numbers are its bound and k Ritz values.
-fn of_rounds(case: Case, rounds: usize) -> usize {
-    plan::times(rounds, plan::next(wide(case)))
-}
-
-// As many numbers as the record needs.
-pub fn needed(case: Case) -> usize {
-    of_rounds(case, case.rounds as usize)
-}
-
-// As many as are of rounds whose products have closed. In the stages after the last round the state still has that round's number.
-pub fn finished(case: Case, stage: usize, round: usize) -> usize {
-    if PRODUCTS < stage {
-        return needed(case);
+impl Looks {
+    pub fn new() -> Self {
+        Looks {
+            kept: 0,
+            digest: digest::EMPTY,
+            made: 0,
+            right: 0,
+        }
     }
-    of_rounds(case, round)
-}
 
-// The numbers of rounds that had finished at the look before are the same, and the record is written so far and no further.
-fn is_right(looks: Looks, look: Look) -> bool {
-    if look.kept != looks.digest {
-        return false;
+    // Whether the numbers of rounds that had finished at the last look are the same.
+    pub fn is_kept(self, list: &[f64]) -> bool {
+        digest::of_front(list, self.kept) == self.digest
     }
-    look.is_so_far
-}
 
-// One look more.
-pub fn looked(looks: Looks, look: Look) -> Looks {
-    Looks {
-        kept: look.count,
-        digest: look.finished,
-        made: plan::raised(looks.made),
-        right: plan::raised_where(is_right(looks, look), looks.right),
+    // One look more: those are the same, and the record is written so far and no further.
+    pub fn look(&mut self, list: &[f64], finished: usize) {
+        if self.is_kept(list) && is_so_far(list, finished) {
+            self.right = self.right.saturating_add(1);
+        }
+        self.made = self.made.saturating_add(1);
+        self.kept = finished;
+        self.digest = digest::of_front(list, finished);
     }
 }

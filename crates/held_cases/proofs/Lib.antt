@@ -1,2 +1,0 @@
--- Which floats are no NaN's.
-mod Patterns
