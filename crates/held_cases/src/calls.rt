@@ -3,7 +3,7 @@ use crate::cases::Case;
 use crate::graph::Graph;
 use crate::lists::{Lists, front};
 use input::SpectralParams;
-use state::{Answer, State};
+use state::{Answer, Memory, MemoryView, State};
 
 // How many row starts, entries and numbers of the Ritz record a call is lent, and no more than there are.
 #[derive(Clone, Copy)]
@@ -13,6 +13,16 @@ pub struct Lent {
     pub record: usize,
 }
 
+impl Lent {
+    fn graph(self, graph: &Graph) -> state::Graph<'_> {
+        state::Graph {
+            starts: front(&graph.starts, self.starts),
+            columns: front(&graph.columns, self.entries),
+            values: front(&graph.values, self.entries),
+        }
+    }
+}
+
 // Opening a case with so many dimensions.
 pub fn open(case: Case, dims: usize, lent: Lent, graph: &Graph, lists: &mut Lists) -> Answer {
     let params = SpectralParams {
@@ -20,67 +30,72 @@ pub fn open(case: Case, dims: usize, lent: Lent, graph: &Graph, lists: &mut List
         degree: case.degree as u64,
         seed_std: SpectralParams::DEFAULT_SEED_STD,
     };
+    let memory = MemoryView {
+        inverse: &lists.inverse,
+        v0: &lists.v0,
+        edge_columns: &lists.edge_columns,
+        edge_weights: &lists.edge_weights,
+        block0: &lists.block0,
+        block1: &lists.block1,
+        block2: &lists.block2,
+        partials: &lists.partials,
+        output: &lists.output,
+    };
+    let record = front(&lists.ritz_record, lent.record);
     run::open(
         dims as u64,
         params,
-        front(&graph.starts, lent.starts),
-        front(&graph.columns, lent.entries),
-        front(&graph.values, lent.entries),
-        &lists.inverse,
-        &lists.v0,
-        &lists.edge_columns,
-        &lists.edge_weights,
-        &lists.block0,
-        &lists.block1,
-        &lists.block2,
-        &lists.partials,
+        lent.graph(graph),
+        memory,
         &mut lists.marks,
-        &lists.output,
-        front(&lists.ritz_record, lent.record),
+        record,
     )
 }
 
 // A chunk of the stage at hand.
 pub fn chunk(state: State, number: usize, lent: Lent, graph: &Graph, lists: &mut Lists) -> Answer {
+    let mut memory = Memory {
+        inverse: &mut lists.inverse,
+        v0: &mut lists.v0,
+        edge_columns: &mut lists.edge_columns,
+        edge_weights: &mut lists.edge_weights,
+        block0: &mut lists.block0,
+        block1: &mut lists.block1,
+        block2: &mut lists.block2,
+        partials: &mut lists.partials,
+        output: &mut lists.output,
+    };
+    let record = front(&lists.ritz_record, lent.record);
     run::chunk(
         state,
         number,
-        front(&graph.starts, lent.starts),
-        front(&graph.columns, lent.entries),
-        front(&graph.values, lent.entries),
-        &mut lists.inverse,
-        &mut lists.v0,
-        &mut lists.edge_columns,
-        &mut lists.edge_weights,
-        &mut lists.block0,
-        &mut lists.block1,
-        &mut lists.block2,
-        &mut lists.partials,
+        lent.graph(graph),
+        &mut memory,
         &mut lists.marks,
-        &mut lists.output,
-        front(&lists.ritz_record, lent.record),
+        record,
     )
 }
 
 // Closing the stage.
 pub fn close(state: State, lent: Lent, graph: &Graph, lists: &mut Lists) -> Answer {
+    let memory = MemoryView {
+        inverse: &lists.inverse,
+        v0: &lists.v0,
+        edge_columns: &lists.edge_columns,
+        edge_weights: &lists.edge_weights,
+        block0: &lists.block0,
+        block1: &lists.block1,
+        block2: &lists.block2,
+        partials: &lists.partials,
+        output: &lists.output,
+    };
     let record = &mut lists.ritz_record[..];
     let room = record.len().min(lent.record);
     run::close(
         state,
-        front(&graph.starts, lent.starts),
-        front(&graph.columns, lent.entries),
-        front(&graph.values, lent.entries),
-        &lists.inverse,
-        &lists.v0,
-        &lists.edge_columns,
-        &lists.edge_weights,
-        &lists.block0,
-        &lists.block1,
-        &lists.block2,
-        &lists.partials,
+        lent.graph(graph),
+        memory,
         &mut lists.marks,
-        &lists.output,
         &mut record[..room],
     )
 }
