@@ -8,7 +8,8 @@ use borrow.Author.Tests.{eq-eqb, ne_eqb}
 use lib.Dec.{eqb}
 use lib.Ieee.{Float, of_bits, binary64}
 use lib.ListN.{length, get_or}
-use Rattle.std.specs.Prelude.{Ok, Err}
+use Rattle.std.specs.Prelude.{Result}
+use Rattle.std.specs.Result.{MatchResult}
 use Rattle.reading.specs.Grammar.{RunNumbers, starts_most, entries_most, largest32, starts_line, columns_line, values_line, line_at}
 use Rattle.reading.specs.ReadLine.{found, none, line_from}
 use Rattle.reading.specs.ReadRun.{Read, run, fault, read_lists, padded, floats_of, record_of}
@@ -95,10 +96,7 @@ pub inside-next : (i : ℕ) → i < 7 → (bytes : List ℕ) (at m count next : 
 inside-next i h bytes at m count next after s t = record { small = s.small; inside = line-inside i h bytes at t.numbers next t.is }
 
 -- ---- what is read, as the code hands it on
-pub outcome_right : (r : Read) (file : RunFile) → outcome_of r ≡ Ok file → file ≡ record_of r
-outcome_right (run f) file e = cc
-outcome_right (fault k) file e = let z : ◌≡◌ {A = ℕ} 0 1 = cc in absurd (omega arith)
-
-pub outcome-wrong : (r : Read) (line : ℕ) → outcome_of r ≡ Err line → r ≡ fault line
-outcome-wrong (run f) line e = let z : ◌≡◌ {A = ℕ} 0 1 = cc in absurd (omega arith)
-outcome-wrong (fault k) line e = ap fault (cc)
+pub outcome_taken : (r : Read) (outcome : Result RunFile ℕ) (file : RunFile) → outcome ≡ outcome_of r
+    → MatchResult outcome (λ x. file ≡ x) (λ line. file ≡ record_of (fault line)) → file ≡ record_of r
+outcome_taken (run f) outcome file e h = subst (λ (o : Result RunFile ℕ). MatchResult o (λ x. file ≡ x) (λ line. file ≡ record_of (fault line))) e h
+outcome_taken (fault k) outcome file e h = subst (λ (o : Result RunFile ℕ). MatchResult o (λ x. file ≡ x) (λ line. file ≡ record_of (fault line))) e h

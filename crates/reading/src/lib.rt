@@ -295,8 +295,5 @@ pub fn read_run(bytes: &[u8]) -> RunFile
     if BYTES_MOST < bytes.len() {
         return faulty(0);
     }
-    match read_lines(bytes) {
-        Ok(file) => file,
-        Err(line) => faulty(line),
-    }
+    read_lines(bytes).unwrap_or_else(faulty)
 }
