@@ -1,5 +1,5 @@
 -- What the inner functions answer. Definitions only.
-use Rattle.std.specs.Prelude.{Bool, true, false, cond, not, ◌&&◌, ◌||◌, List, [], ◌∷◌, ◌≡◌, ℕ, ◌+◌, ◌≤◌, Option, Some, None, eqb, leb, length, drop}
+use Rattle.std.specs.Prelude.{Bool, true, false, cond, not, ◌&&◌, ◌||◌, List, [], ◌∷◌, ◌≡◌, ℕ, ◌≤◌, Option, Some, None, eqb, leb, length, drop}
 use Rattle.digits.specs.Digits.{part, every, is_digit}
 use Rattle.lines.specs.Lines.{begins}
 use Rattle.lines.specs.Kinds.{largest, value_of, is_number}

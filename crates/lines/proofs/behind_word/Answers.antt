@@ -1,6 +1,6 @@
 use Rattle.lines.proofs.Banners.{same_word, fails-none, fails-other}
 use Rattle.lines.proofs.behind_word.Goals as goal
-use mathlib.Core.Path.{sym, ◌∙◌}
+use mathlib.Core.Path.{◌∙◌}
 
 pub returns-in_err-word : goal.returns-in_err-word
 returns-in_err-word c = rw c.from_residual.ensures (fails-none _ _ c.in_err-word.ensures)

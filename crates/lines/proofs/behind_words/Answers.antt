@@ -1,5 +1,5 @@
 -- word by word
-use mathlib.Core.Path.{sym, ◌∙◌}
+use mathlib.Core.Path.{◌∙◌}
 use Rattle.lines.specs.Lines.{words_of}
 use Rattle.lines.proofs.Banners.{behind, behind_last}
 use Rattle.lines.proofs.behind_words.Goals as goal

@@ -1,6 +1,6 @@
 -- The invariant: the bytes passed and those still to come end at one place.
 use mathlib.Core.Path.{◌≡◌}
-use Prim.Native.Nat.{◌+◌, ◌-◌}
+use Prim.Native.Nat.{◌+◌}
 use lib.ListN.{length}
 use Rattle.lines.specs.Parts.{line_at}
 use Rattle.lines.proofs.line_end.Given as goal

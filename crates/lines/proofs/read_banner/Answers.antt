@@ -1,8 +1,7 @@
-use mathlib.Core.Path.{refl, sym, ap, ◌∙◌}
+use mathlib.Core.Path.{refl, sym, ◌∙◌}
 use mathlib.Core.Bool.{true, false}
 use native.Mathlib.Omega.{arith}
 use lib.Seq.{length-take-le}
-use Rattle.std.specs.Prelude.{Some, None}
 use Rattle.lines.proofs.Runs.{at_most, at_end}
 use Rattle.lines.proofs.Ends.{goes_nil}
 use Rattle.lines.specs.Parts.{line_goes_on}

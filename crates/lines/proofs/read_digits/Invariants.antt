@@ -1,6 +1,4 @@
 -- The invariant: the bytes passed are digits, and `value` is their number.
-use Prim.Native.Nat.{◌-◌}
-use lib.ListN.{length}
 use Rattle.lines.specs.Parts.{ReadsDigits}
 use Rattle.lines.proofs.read_digits.Given as goal
 

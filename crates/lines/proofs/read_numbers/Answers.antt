@@ -1,6 +1,4 @@
 -- each way out is a case of `numbers_in`.
-use mathlib.Core.Path.{sym, ◌∙◌}
-use mathlib.Core.List.{List, [], ◌∷◌}
 use Rattle.lines.proofs.Numbers.{says-nothing, first-wrong, says-one, second-wrong, says-entry, third-wrong, says-more, says-size}
 use Rattle.lines.proofs.read_numbers.Goals as goal
 

@@ -1,9 +1,9 @@
-use mathlib.Core.Path.{sym, ap, subst, ◌∙◌}
+use mathlib.Core.Path.{sym, ap, ◌∙◌}
 use Rattle.input.specs.Said.{verdict_of}
 use Rattle.input.specs.declared.Verdict.{Verdict}
 use Rattle.market.specs.Market.{Read}
 use Rattle.matrix_market.specs.Outcome.{outcome, outcome_of}
-use Rattle.matrix_market.specs.Said.{outcome_in, read_told, CountedBy}
+use Rattle.matrix_market.specs.Said.{outcome_in}
 use Rattle.matrix_market.specs.declared.MarketRead.{MarketRead}
 use Rattle.matrix_market.proofs.Outcomes.{out_fault}
 use Rattle.matrix_market.proofs.read_matrix_market.Goals as goal
