@@ -78,7 +78,8 @@ fn lists_enough(a: Asked, starts: &[u64], columns: &[u32], values: &[f64]) -> bo
     a.rows < starts.len() && (a.entries <= columns.len() && a.entries <= values.len())
 }
 
-// The lengths of lent memory 0 to 10, from those of the lists that a test does not get, and those of the two that it gets.
+// The lengths of lent memory 0 to 10, from those of the lists that a test does not get, and those of the two that it gets. Arrays and no
+// struct: document 01 numbers the lent memory, `input::lent_sizes` answers its sizes by that number, and refusal 11 names one by it.
 pub fn own_lengths(lengths: [usize; 9], edge_columns: usize, marks: usize) -> [usize; 11]
     ensures { result ≡ own_lengths lengths edge_columns marks }
 {

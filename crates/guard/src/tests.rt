@@ -7,7 +7,7 @@ ghost use Rattle.machine.specs.Ranges.{test_chunk, test_close};
 ghost use Rattle.state.specs.Said.{asked_in, state_in, lists_in};
 ghost use Rattle.guard.specs.Rows.{ChunkLists, begun_test, own_test, other_lengths};
 
-use crate::ranges::{is_open, state_sound};
+use crate::ranges::{fields_sound, is_open};
 use crate::rows::{lists_sound, own_lengths, rows_sound};
 use columns::marks::{first_undone, marks_sound};
 use input::Refusal;
@@ -15,23 +15,21 @@ use state::{Asked, State};
 
 // What both calls test first: the state, that a run is open, and that the lists are long enough for it.
 fn test_begun(
-    state: State,
+    state: &State,
     starts: &[u64],
     columns: &[u32],
     values: &[f64],
     lengths: [usize; 11],
 ) -> Result<(), Refusal>
-    ensures { verdict_in result ≡ begun_test (state_in state) (lists_in starts.now columns.now values.now) lengths }
+    ensures { verdict_in result ≡ begun_test (state_in state.now) (lists_in starts.now columns.now values.now) lengths }
 {
-    let asked = state.asked;
-    let progress = state.progress;
-    if !state_sound(state) {
+    if !fields_sound(state) {
         return Err(Refusal::State);
     }
-    if !is_open(progress.stage) {
+    if !is_open(state.progress.stage) {
         return Err(Refusal::NoRun);
     }
-    if !lists_sound(asked, starts, columns, values, lengths) {
+    if !lists_sound(state.asked, starts, columns, values, lengths) {
         return Err(Refusal::State);
     }
     Ok(())
@@ -82,7 +80,7 @@ pub fn test_chunk(
     let asked = state.asked;
     let progress = state.progress;
     let own = own_lengths(lengths, edge_columns.len(), marks.len());
-    test_begun(state, starts, columns, values, own)?;
+    test_begun(&state, starts, columns, values, own)?;
     if input::chunk_count(asked.rows) <= number {
         return Err(Refusal::Chunk(number));
     }
@@ -111,7 +109,7 @@ pub fn test_close(
 {
     let asked = state.asked;
     let own = own_lengths(lengths, edge_columns.len(), marks.len());
-    test_begun(state, starts, columns, values, own)?;
+    test_begun(&state, starts, columns, values, own)?;
     let chunks = input::chunk_count(asked.rows);
     if !marks_sound(marks, chunks) {
         return Err(Refusal::State);

@@ -7,32 +7,19 @@ use crate::SpectralParams;
 pub fn chunk_count(n: usize) -> usize
     ensures { result ≡ chunks n }
 {
-    let full = n / SpectralParams::CHUNK_ROWS;
-    if n % SpectralParams::CHUNK_ROWS == 0 {
-        full
-    } else {
-        full + 1
-    }
+    n.div_ceil(SpectralParams::CHUNK_ROWS)
 }
 
 // The first row of a chunk, and n past the last chunk.
 pub fn first_row(n: usize, chunk: usize) -> usize
     ensures { result ≡ first_row n chunk }
 {
-    if chunk <= n / SpectralParams::CHUNK_ROWS {
-        chunk * SpectralParams::CHUNK_ROWS
-    } else {
-        n
-    }
+    chunk.saturating_mul(SpectralParams::CHUNK_ROWS).min(n)
 }
 
 // The row after a chunk's last.
 pub fn end_row(n: usize, chunk: usize) -> usize
     ensures { result ≡ first_row n (chunk + 1) }
 {
-    if chunk < n / SpectralParams::CHUNK_ROWS {
-        (chunk + 1) * SpectralParams::CHUNK_ROWS
-    } else {
-        n
-    }
+    first_row(n, chunk.saturating_add(1))
 }

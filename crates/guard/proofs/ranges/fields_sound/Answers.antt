@@ -6,10 +6,10 @@ use Rattle.state.specs.Said.{asked_in}
 use Rattle.definition.specs.Arith.{ieee64}
 use Rattle.ready.proofs.Tested.{asked_ready}
 use Rattle.guard.proofs.Chains.{failed, passed}
-use Rattle.guard.proofs.ranges.state_sound.Goals as goal
-use Rattle.guard.proofs.ranges.state_sound.Goals.{Then-asked_sound}
+use Rattle.guard.proofs.ranges.fields_sound.Goals as goal
+use Rattle.guard.proofs.ranges.fields_sound.Goals.{Then-asked_sound}
 
-ready : (c : Then-asked_sound) → AskedReady (asked_in c.args.state.asked)
+ready : (c : Then-asked_sound) → AskedReady (asked_in c.args.s.now.asked)
 ready c = asked_ready ieee64 _ (sym c.asked_sound.ensures ∙ c.if-asked_sound.true)
 
 pub progress_sound-requires : goal.progress_sound-requires
