@@ -1,5 +1,5 @@
 -- Roots of whole numbers: the first digits by a loop, as many again by one division, and the rounding. Assumes nothing.
-use Rattle.std.proofs.Common.{◌≡◌, ℕ, zero, suc, ◌+◌, ◌-◌, ◌*◌, ◌/◌, ◌%◌, ◌^◌, ◌<◌, ◌≤◌, sym, ap, ◌∙◌, subst, ⊎_elim, lt_of_lt_of_le, lt_of_le_of_lt, add-zero, mul-le-mul_right, mod-lt, mul_assoc, div-lt_iff_lt-mul, add-mul, mul-le-mul, mul-le-mul_left, mul-pos, div-add-mod', mul-one, mul-add, mul_right_comm, add-one, arith, lit<, pow_mono, pow-add}
+use Rattle.std.proofs.Common.{◌≡◌, ℕ, zero, suc, ◌+◌, ◌-◌, ◌*◌, ◌/◌, ◌%◌, ◌^◌, ◌<◌, ◌≤◌, sym, ap, ◌∙◌, subst, ⊎_elim, lt_of_lt_of_le, lt_of_le_of_lt, mul-le-mul_right, mod-lt, mul_assoc, div-lt_iff_lt-mul, add-mul, mul-le-mul, mul-le-mul_left, mul-pos, div-add-mod', mul-one, mul-add, mul_right_comm, add-one, arith, lit<, pow_mono, pow-add}
 use native.Mathlib.Nat.{mul-mul-mul_comm}
 use Rattle.definition.specs.Root.{Nearest}
 use Rattle.definition.proofs.Tests.{lt_or_ge}

@@ -2,11 +2,10 @@
 use Rattle.std.proofs.Common.{◌≡◌, ℕ, zero, suc, ◌+◌, ◌-◌, ◌*◌, ◌/◌, ◌%◌, ◌^◌, ◌<◌, ◌≤◌, Bool, true, false, cond, not, T, eqb, ltb, sym, refl, ap, ◌∙◌, subst, ap₂, le_trans, le_of_eq, lt_irrefl, mul-le-mul_right, mod-eq_of_lt, mul_assoc, mul-pos, zero-mul, mul-one, mul_right_comm, arith, pow_pos, pow-add, shl_lt, ltb-false, le-ltb, ne_eqb, le-leb}
 use mathlib.Core.Bool.{false≢true}
 use lib.Count.{count_leading_zeros, leading_top}
-use lib.Ieee.{Float, nan, inf, fin, binary64, up, down, odd, of_fields, of_bits, to_bits, is_nan, nan_bits, fits, ne}
+use lib.Ieee.{Float, nan, inf, fin, binary64, up, down, odd, of_fields, of_bits, to_bits, is_nan, nan_bits, fits}
 use lib.Ieee.Exact.{HasValue, odd_sign}
 use lib.Ieee.Fits.{down_pos}
 use lib.Ieee.Bits.{is_false, of_bits-to_bits, to_bits-lt, nan_bits_is, nan_bits_above}
-use lib.Ieee.Compare.{differs_from_itself, nan_differs}
 use borrow.Author.Tests.{lt-leb}
 use Rattle.definition.specs.Root.{Nearest, Root, root_of}
 use Rattle.definition.proofs.RootLaws.{near_ge, near-lt, pow_lt_back, root_is_lem}

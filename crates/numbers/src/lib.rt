@@ -78,14 +78,15 @@ pub fn v0_of(norm: f64, root: f64) -> f64
 
 // ---- the filter's numbers
 
-// x, raised to a least value. A NaN becomes that value.
+// x, raised to a least value. A NaN becomes that value. Not f64's max, whose contract leaves open
+// which of two that compare equal it gives.
 fn raise(x: f64, least: f64) -> f64
     ensures { result ≡ raised ieee64 x least }
 {
     if least < x { x } else { least }
 }
 
-// x, lowered to a largest value. A NaN becomes that value.
+// x, lowered to a largest value. A NaN becomes that value. Not f64's min, for the same reason.
 fn lower(x: f64, most: f64) -> f64
     ensures { result ≡ lowered ieee64 x most }
 {

@@ -22,7 +22,11 @@ fn first_digits(a: u64) -> Whole
         let t = r * 4 + bits / 0x10_0000_0000_0000;
         let s = q * 4 + 1;
         bits = bits % 0x10_0000_0000_0000 * 4;
-        (q, r) = if s <= t { (q * 2 + 1, t - s) } else { (q * 2, t) };
+        (q, r) = if s <= t {
+            (q * 2 + 1, t - s)
+        } else {
+            (q * 2, t)
+        };
     }
     Whole { root: q, rest: r }
 }

@@ -43,7 +43,8 @@ pub fn terms<F: Fn(f64) -> f64>(
     acc
 }
 
-// The dots of column c.
+// The dots of column c. This loop and the next stay beside `terms`: a closure that adds a row would
+// lend it the sums and ask for the bounds of its row, which is more than the three lines here.
 pub fn dots(
     n: usize,
     k: usize,

@@ -1,7 +1,7 @@
 -- The invariant: count is that of the first i rows.
 use mathlib.Core.Path.{◌≡◌}
 use mathlib.Core.List.{List}
-use Prim.Native.Nat.{ℕ, ◌≤◌, ◌-◌}
+use Prim.Native.Nat.{ℕ, ◌≤◌}
 use lib.Ieee.{Float}
 use Rattle.definition.specs.Arith.{ieee64}
 use Rattle.definition.specs.Memory.{vector_of}

@@ -5,9 +5,6 @@ use Rattle.definition.proofs.Places.{square-most}
 use Rattle.sums.proofs.Partials.{summed-put}
 use Rattle.sums.proofs.products_partial.Goals as goal
 
-pub put_partial-requires : goal.put_partial-requires
-put_partial-requires c = omega (arith, square-most c.args.k (omega arith))
-
 pub returns : goal.returns
 returns c =
     summed-put ieee64 _ _ _ _ _ _ (square-most c.args.k (omega arith)) c.products-sums.ensures

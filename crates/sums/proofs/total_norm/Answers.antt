@@ -1,7 +1,6 @@
 -- The totals' place 0, and its root.
 use mathlib.Core.Path.{◌≡◌, ap, ◌∙◌}
 use Prim.Native.Nat.{◌+◌, ◌*◌}
-use native.Mathlib.Nat.{mul-le-mul_right}
 use native.Mathlib.Omega.{arith}
 use mathlib.Core.List.{List}
 use lib.ListN.{get_or, length-replicate}
@@ -11,9 +10,6 @@ use Rattle.definition.specs.Root.{root_of}
 use Rattle.definition.proofs.Fill.{fill_in}
 use Rattle.definition.proofs.Sums.{sum_cong}
 use Rattle.sums.proofs.total_norm.Goals as goal
-
-pub totals-requires : goal.totals-requires
-totals-requires c = let k = c.args.k in omega (arith, mul-le-mul_right {m = 1} {n = k} k (omega arith))
 
 pub returns : goal.returns
 returns c =

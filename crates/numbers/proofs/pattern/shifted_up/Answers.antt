@@ -11,18 +11,6 @@ zeros c = zeros_of c.args.t c.requires.0 c.requires.1
 pub overflow_sub-shift : goal.overflow_sub-shift
 overflow_sub-shift c = omega (arith, zeros (goal.at.overflow_sub-shift c).Start)
 
-pub overflow_cast-wide : goal.overflow_cast-wide
-overflow_cast-wide c = omega (arith, zeros (goal.at.overflow_cast-wide c).Start)
-
-pub overflow_cast-result : goal.overflow_cast-result
-overflow_cast-result c = omega (arith, zeros (goal.at.overflow_cast-result c).Start)
-
-pub overflow_shl-result : goal.overflow_shl-result
-overflow_shl-result c = omega (arith, zeros (goal.at.overflow_shl-result c).Start)
-
-pub overflow_sub-result : goal.overflow_sub-result
-overflow_sub-result c = omega (arith, zeros (goal.at.overflow_sub-result c).Start)
-
 pub returns : goal.returns
 returns c =
     let t = c.args.t in

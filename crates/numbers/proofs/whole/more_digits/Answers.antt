@@ -7,29 +7,8 @@ use Rattle.numbers.proofs.whole.more_digits.Goals.{Start}
 bounds : (c : Start) → Divided c.args.s c.args.r c.args.base c.args.low c.requires
 bounds c = divided c.args.s c.args.r c.args.base c.args.low c.requires
 
-pub overflow_mul-twice : goal.overflow_mul-twice
-overflow_mul-twice c = omega (arith, bounds (goal.at.overflow_mul-twice c).Start)
-
-pub overflow_mul-n : goal.overflow_mul-n
-overflow_mul-n c = omega (arith, bounds (goal.at.overflow_mul-n c).Start)
-
-pub overflow_add-n : goal.overflow_add-n
-overflow_add-n c = omega (arith, bounds (goal.at.overflow_add-n c).Start)
-
-pub overflow_mul-left : goal.overflow_mul-left
-overflow_mul-left c = omega (arith, bounds (goal.at.overflow_mul-left c).Start)
-
-pub overflow_add-left : goal.overflow_add-left
-overflow_add-left c = omega (arith, bounds (goal.at.overflow_add-left c).Start)
-
 pub overflow_mul-square : goal.overflow_mul-square
 overflow_mul-square c = omega (arith, bounds (goal.at.overflow_mul-square c).Start)
-
-pub overflow_mul-q : goal.overflow_mul-q
-overflow_mul-q c = omega (arith, bounds (goal.at.overflow_mul-q c).Start)
-
-pub overflow_add-q : goal.overflow_add-q
-overflow_add-q c = omega (arith, bounds (goal.at.overflow_add-q c).Start)
 
 pub overflow_add-result : goal.overflow_add-result
 overflow_add-result c = record { fits = (corrected c.args.s c.args.r c.args.base c.args.low c.requires c.if-left-square.true).narrow }

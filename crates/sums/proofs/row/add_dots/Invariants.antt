@@ -1,7 +1,7 @@
 -- The sums below p have the row, and at last the one at c.
 use mathlib.Core.Path.{◌≡◌}
 use mathlib.Core.Bool.{cond}
-use Prim.Native.Nat.{◌≤◌, ◌-◌, ◌+◌}
+use Prim.Native.Nat.{◌≤◌, ◌+◌}
 use lib.Dec.{eqb}
 use lib.ListN.{get_or}
 use lib.Ieee.{nan}

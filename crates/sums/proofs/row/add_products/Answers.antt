@@ -2,19 +2,13 @@ use Rattle.std.proofs.Common.{rules}
 use lib.ListN.{get_or}
 use lib.Ieee.{nan}
 use mathlib.Core.Path.{◌≡◌, sym, ap}
-use Prim.Native.Nat.{ℕ, ◌≤◌, ◌*◌, ◌+◌}
+use Prim.Native.Nat.{ℕ, ◌*◌, ◌+◌}
 use native.Mathlib.Omega.{arith}
 use Rattle.definition.specs.Arith.{ieee64}
-use Rattle.definition.proofs.Places.{row_next, row_end, square-most}
+use Rattle.definition.proofs.Places.{row_next}
 use Rattle.sums.proofs.Partials.{row_in, column_in_lem, raised-none, raised-next, raised_to}
 use Rattle.sums.proofs.row.add_products.Goals as goal
 use Rattle.sums.proofs.row.add_products.Goals.{In-loop-p}
-
--- row p of the products lies among the sums
-inside : (c : In-loop-p) → c.loop-p.p * c.args.k + c.args.k ≤ 225
-inside c =
-    let k = c.args.k in
-    omega (arith, row_end c.loop-p.p k k (omega arith), square-most k (omega arith))
 
 pub loop-p-init : goal.loop-p-init
 loop-p-init c = (omega arith, raised-none ieee64 _ _ _ _ (omega arith))
@@ -35,9 +29,3 @@ returns c =
     let k = c.args.k in
     let e : c.loop-p.p ≡ k = omega arith in
     raised_to ieee64 0 _ _ c.loop-p.invariant.1 (ap (λ (x : ℕ). x * k) e)
-
-pub overflow_mul-p : goal.overflow_mul-p
-overflow_mul-p c = omega (arith, inside (goal.at.overflow_mul-p c).In-loop-p)
-
-pub add_terms-requires-clause-sizes : goal.add_terms-requires-clause-sizes
-add_terms-requires-clause-sizes c = omega (arith, inside (goal.at.add_terms-requires-clause-sizes c).In-loop-p)

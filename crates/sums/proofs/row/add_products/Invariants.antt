@@ -1,6 +1,6 @@
 -- The sums of the rows below p of the products have the row.
 use mathlib.Core.Path.{◌≡◌}
-use Prim.Native.Nat.{◌≤◌, ◌-◌, ◌*◌, ◌+◌}
+use Prim.Native.Nat.{◌≤◌, ◌*◌, ◌+◌}
 use lib.ListN.{get_or}
 use lib.Ieee.{nan}
 use Rattle.definition.specs.Arith.{ieee64}

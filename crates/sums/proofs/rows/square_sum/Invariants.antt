@@ -1,6 +1,6 @@
 -- Acc is the sum over the rows from `first` up to i.
 use mathlib.Core.Path.{◌≡◌}
-use Prim.Native.Nat.{◌≤◌, ◌-◌, ◌*◌, ◌+◌}
+use Prim.Native.Nat.{◌≤◌, ◌*◌, ◌+◌}
 use lib.ListN.{get_or}
 use lib.Ieee.{nan}
 use Rattle.definition.specs.Arith.{ieee64}

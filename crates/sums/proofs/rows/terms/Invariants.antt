@@ -1,6 +1,6 @@
 -- The sums have the rows below i.
 use mathlib.Core.Path.{◌≡◌}
-use Prim.Native.Nat.{◌≤◌, ◌*◌, ◌+◌}
+use Prim.Native.Nat.{◌*◌, ◌+◌}
 use lib.ListN.{get_or}
 use lib.Ieee.{Float, nan}
 use Rattle.definition.specs.Arith.{ieee64}
