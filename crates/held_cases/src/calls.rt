@@ -14,8 +14,8 @@ pub struct Lent {
 }
 
 impl Lent {
-    fn graph(self, graph: &Graph) -> state::Graph<'_> {
-        state::Graph {
+    fn graph(self, graph: &Graph) -> input::Graph<'_> {
+        input::Graph {
             starts: front(&graph.starts, self.starts),
             columns: front(&graph.columns, self.entries),
             values: front(&graph.values, self.entries),

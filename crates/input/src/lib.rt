@@ -8,11 +8,13 @@ ghost use Rattle.definition.specs.Refusals.{test_rounds, test_degree, test_seed_
 ghost use Rattle.input.specs.Said.{params_of, set_in, Answered};
 
 mod chunks;
+mod graph;
 mod refusal;
 mod request;
 mod scan;
 
 pub use chunks::{chunk_count, end_row, first_row};
+pub use graph::Graph;
 pub use refusal::Refusal;
 pub use request::{
     lent_sizes, row_count, test_dims, test_graph, test_lent, test_params, test_request,

@@ -8,9 +8,9 @@ ghost use Rattle.state.specs.Said.{state_in, lists_of, lent_of, all_of, outcome_
 ghost use Rattle.stages.specs.Parts.{parts_of};
 
 use columns::marks::set_mark;
-use input::Verdict;
+use input::{Graph, Verdict};
 use stages::StateParts;
-use state::{Answer, Graph, Memory, State};
+use state::{Answer, Memory, State};
 
 // A chunk without its tests, for a caller that has shown what they ask: of the state the parts that a chunk's work reads.
 pub fn work_chunk<'a, 'g, 'm>(

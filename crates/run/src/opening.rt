@@ -7,8 +7,8 @@ ghost use Rattle.machine.specs.Calls.{open_call};
 ghost use Rattle.state.specs.Said.{asked_in, state_in, lists_in, lists_of, all_seen, outcome_in};
 
 use columns::marks::clear_marks;
-use input::{SpectralParams, Verdict};
-use state::{Answer, Asked, Counts, Graph, MemoryView, Progress, State};
+use input::{Graph, SpectralParams, Verdict};
+use state::{Answer, Asked, Counts, MemoryView, Progress, State};
 
 // At a stage, with nothing done yet: all numbers are 0 but the filter's first bound and the alpha that it sets.
 fn begun_at(stage: usize, asked: Asked) -> State

@@ -9,8 +9,8 @@ ghost use Rattle.machine.specs.Calls.{close_call};
 ghost use Rattle.state.specs.Said.{asked_in, state_in, lists_of, all_seen, outcome_in};
 
 use columns::marks::clear_marks;
-use input::Verdict;
-use state::{Answer, Graph, MemoryView, State};
+use input::{Graph, Verdict};
+use state::{Answer, MemoryView, State};
 
 // Closing without its tests, for a caller that has shown what they ask.
 pub fn close_stage(

@@ -13,9 +13,9 @@ ghost use Rattle.promises.specs.OneCall.{whole_call, end_of};
 ghost use Rattle.state.specs.Said.{asked_in, counts_in, state_in, lists_of, lent_of, all_of, SamePlaces};
 ghost use Rattle.spectral.specs.Said.{whole_in, done_up, params_asked};
 
-use input::{SpectralParams, Verdict};
+use input::{Graph, SpectralParams, Verdict};
 use stages::StateParts;
-use state::{Counts, Graph, Memory, State};
+use state::{Counts, Memory, State};
 
 // The verdict and the counts of the whole run; zero counts with a refusal. A record and no `Result`: C gets it of `threshcinch_spectral_embedding`.
 #[repr(C)]

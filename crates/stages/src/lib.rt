@@ -14,7 +14,8 @@ ghost use Rattle.state.specs.Said.{lists_of, lent_in, lent_of, SamePlaces};
 ghost use Rattle.stages.specs.Parts.{parts_of};
 
 use blocks::{Blocks, Chunk, Edges};
-use state::{Asked, Graph, Memory, Progress, Stage};
+use input::Graph;
+use state::{Asked, Memory, Progress, Stage};
 
 // A state by the parts that some stage reads, where they lie, so that no call copies a matrix.
 #[derive(Clone, Copy)]

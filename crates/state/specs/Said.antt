@@ -10,7 +10,7 @@ use Rattle.state.specs.declared.Progress.{Progress}
 use Rattle.state.specs.declared.Counts.{Counts}
 use Rattle.state.specs.declared.State.{State}
 use Rattle.state.specs.declared.Answer.{Answer}
-use Rattle.state.specs.declared.lent.Graph.{Graph}
+use Rattle.input.specs.declared.graph.Graph.{Graph}
 use Rattle.state.specs.declared.lent.Memory.{Memory}
 use Rattle.state.specs.declared.lent.MemoryView.{MemoryView}
 

@@ -1,15 +1,7 @@
-// What a run is lent: a graph, and memory in document 01's order. The marks (8) and the Ritz record (10) are lent beside it: no chunk's
-// work reads or writes them.
+// The memory that a run is lent, in document 01's order. The marks (8) and the Ritz record (10) are lent beside it: no chunk's work reads
+// or writes them.
 ghost use Rattle.std.specs.Prelude.{◌≡◌};
 ghost use Rattle.state.specs.Said.{lent_of, lent_seen};
-
-// Where each row's entries start and where the last end, the entries' columns, and their values.
-#[derive(Clone, Copy)]
-pub struct Graph<'a> {
-    pub starts: &'a [u64],
-    pub columns: &'a [u32],
-    pub values: &'a [f64],
-}
 
 // The lists that chunks work on, lent memory 0 to 7 and 9.
 #[derive(Drop)]

@@ -16,7 +16,7 @@ pub use stage::Stage;
 
 mod lent; // what a run is lent
 
-pub use lent::{Graph, Memory, MemoryView};
+pub use lent::{Memory, MemoryView};
 
 // What was asked at the opening.
 #[repr(C)]

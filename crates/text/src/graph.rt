@@ -6,9 +6,9 @@ ghost use Rattle.printing.specs.Printed.{room};
 ghost use Rattle.state.specs.Said.{counts_in};
 ghost use Rattle.text.specs.Small.{Embeds, answer_of};
 
-use input::SpectralParams;
+use input::{Graph, SpectralParams};
 use spectral::Embedded;
-use state::{Graph, Memory};
+use state::Memory;
 
 // The one call in memory for 64 rows, 1,024 entries, 7 dimensions and 400 rounds; the seed is in `output`. The Ritz record is not printed.
 fn embed(

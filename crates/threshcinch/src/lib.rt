@@ -17,9 +17,9 @@ ghost use Rattle.spectral.specs.Said.{whole_in};
 ghost use Rattle.state.specs.Said.{state_in, lists_in, lent_all, outcome_in};
 ghost use Rattle.threshcinch.specs.Said.{test_sizes, sizes_by};
 
-use input::{Refusal, Set, SpectralParams, Verdict};
+use input::{Graph, Refusal, Set, SpectralParams, Verdict};
 use spectral::Embedded;
-use state::{Answer, Graph, Memory, MemoryView, State};
+use state::{Answer, Memory, MemoryView, State};
 
 mod markets; // Matrix Market files
 mod texts; // run files and answers
