@@ -16,7 +16,7 @@ ghost use Rattle.matrix_market.specs.Said.{outcome_in, room_in, entries_at, Test
 
 use input::{SpectralParams, Verdict};
 
-// A refusal, or none, with the rows and the entries as placed; zeros with a refusal.
+// A refusal, or none, with the rows and the entries as placed; zeros with a refusal. A record and no Result: the C interface has it so.
 #[repr(C)]
 #[derive(Drop)]
 pub struct MarketRead {
@@ -25,7 +25,7 @@ pub struct MarketRead {
     pub entries: usize,
 }
 
-// How long the lists must at most be for a file: starts, and columns and values each; zeros with a refusal.
+// How long the lists must at most be for a file: starts, and columns and values each; zeros with a refusal. The C interface has it so too.
 #[repr(C)]
 #[derive(Drop)]
 pub struct MarketSizes {
