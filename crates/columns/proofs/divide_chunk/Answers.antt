@@ -3,8 +3,8 @@ use native.Mathlib.Omega.{arith}
 use lib.Ieee.{nan}
 use Rattle.definition.specs.Arith.{ieee64}
 use Rattle.definition.specs.OrthonormalizeBlock.{written}
-use Rattle.definition.proofs.Blocks.{span-places, part-number}
-use Rattle.columns.proofs.Lent.{lent-part, column_back}
+use Rattle.definition.proofs.Blocks.{part-number}
+use Rattle.columns.proofs.Lent.{column_back}
 use Rattle.columns.proofs.divide_chunk.Goals as goal
 
 pub returns : goal.returns

@@ -2,8 +2,7 @@ use mathlib.Core.Path.{refl}
 use native.Mathlib.Omega.{arith}
 use Rattle.definition.specs.Arith.{ieee64}
 use Rattle.definition.specs.OrthonormalizeBlock.{written}
-use Rattle.definition.proofs.Blocks.{span-places}
-use Rattle.columns.proofs.Lent.{lent-part, column_back}
+use Rattle.columns.proofs.Lent.{column_back}
 use Rattle.columns.proofs.refresh_chunk.Goals as goal
 
 pub returns : goal.returns

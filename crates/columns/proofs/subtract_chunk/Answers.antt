@@ -1,7 +1,5 @@
-use native.Mathlib.Omega.{arith}
 use Rattle.definition.specs.Arith.{ieee64}
-use Rattle.definition.proofs.Blocks.{span-places}
-use Rattle.columns.proofs.Lent.{lent-part, subtracted_back}
+use Rattle.columns.proofs.Lent.{subtracted_back}
 use Rattle.columns.proofs.subtract_chunk.Goals as goal
 
 pub returns : goal.returns

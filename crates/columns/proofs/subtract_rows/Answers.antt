@@ -1,12 +1,10 @@
 use mathlib.Core.Path.{ap, ◌∙◌}
-use Prim.Native.Nat.{◌+◌, ◌*◌, ◌≤◌}
-use native.Mathlib.Omega.{arith}
-use lib.ListN.{length}
+use Prim.Native.Nat.{◌*◌}
 use lib.Ieee.{nan}
 use Rattle.definition.specs.Arith.{ieee64}
 use Rattle.definition.specs.OrthonormalizeBlock.{subtracted}
-use Rattle.columns.proofs.Fills.{turn_none, turn_end, turn_room, turn_ahead, turn_column}
-use Rattle.columns.proofs.Lent.{cut_number, cut_length}
+use Rattle.columns.proofs.Fills.{turn_none, turn_end, turn_ahead, turn_column}
+use Rattle.columns.proofs.Lent.{cut_number}
 use Rattle.columns.proofs.Locals.{delta_cong}
 use Rattle.columns.proofs.subtract_rows.Goals as goal
 use Rattle.columns.proofs.subtract_rows.Goals.{In-loop-r}

@@ -6,7 +6,6 @@ use lib.Ieee.{Float, nan}
 use Rattle.definition.specs.Arith.{ieee64}
 use Rattle.definition.specs.SpectralEmbedding.{centred}
 use Rattle.definition.proofs.Fill.{fill_in}
-use Rattle.definition.proofs.Blocks.{span-places, rows-length}
 use Rattle.columns.proofs.Lent.{each_back}
 use Rattle.columns.proofs.output.centre_chunk.Goals as goal
 

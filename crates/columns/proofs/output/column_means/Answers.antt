@@ -1,9 +1,6 @@
 use mathlib.Core.Path.{refl}
-use Prim.Native.Nat.{◌^◌, ◌≤◌}
 use native.Mathlib.Omega.{arith}
 use lib.ListN.{length-set}
-use lib.Ieee.{in_float}
-use lib.Dec.{le→leb}
 use Rattle.definition.proofs.Fill.{fill_start, fill_step, fill_to}
 use Rattle.columns.proofs.output.column_means.Goals as goal
 

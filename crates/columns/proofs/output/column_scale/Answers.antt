@@ -1,8 +1,4 @@
 use mathlib.Core.Path.{ap, ◌∙◌}
-use Prim.Native.Nat.{◌≤◌, ◌^◌}
-use native.Mathlib.Omega.{arith}
-use lib.Dec.{le→leb}
-use lib.Ieee.{in_float}
 use Rattle.definition.specs.Arith.{ieee64}
 use Rattle.definition.specs.SpectralEmbedding.{scale_of, spread}
 use Rattle.columns.proofs.output.column_scale.Goals as goal

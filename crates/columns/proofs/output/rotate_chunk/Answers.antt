@@ -1,6 +1,6 @@
 use mathlib.Core.Path.{refl}
 use native.Mathlib.Omega.{arith}
-use Rattle.definition.proofs.Blocks.{span-places, rows-length, block_back}
+use Rattle.definition.proofs.Blocks.{block_back}
 use Rattle.columns.proofs.output.rotate_chunk.Goals as goal
 
 pub returns : goal.returns

@@ -1,14 +1,13 @@
 use mathlib.Core.Path.{◌≡◌, ap}
-use Prim.Native.Nat.{◌+◌, ◌*◌, ◌-◌, ◌≤◌}
+use Prim.Native.Nat.{◌+◌, ◌*◌, ◌-◌}
 use native.Mathlib.Omega.{arith}
-use lib.ListN.{length, get_or}
+use lib.ListN.{get_or}
 use lib.Ieee.{nan}
 use Rattle.definition.specs.Arith.{ieee64}
 use Rattle.definition.specs.Memory.{place, block_of}
-use Rattle.columns.proofs.Fills.{turn_none, turn_end, turn_room, turn_row}
+use Rattle.columns.proofs.Fills.{turn_none, turn_end, turn_row}
 use Rattle.definition.specs.SpectralEmbedding.{unscaled}
-use Rattle.definition.proofs.Places.{row_end}
-use Rattle.columns.proofs.Lent.{cut_number, cut_length}
+use Rattle.columns.proofs.Lent.{cut_number}
 use Rattle.columns.proofs.Locals.{rotated_cong}
 use Rattle.columns.proofs.output.rotate_rows.Goals as goal
 use Rattle.columns.proofs.output.rotate_rows.Goals.{In-loop-r}

@@ -1,9 +1,7 @@
 use mathlib.Core.Path.{refl}
-use native.Mathlib.Omega.{arith}
 use lib.Ieee.{nan}
 use Rattle.definition.specs.Arith.{ieee64}
 use Rattle.definition.specs.SpectralEmbedding.{scaled}
-use Rattle.definition.proofs.Blocks.{span-places, rows-length}
 use Rattle.columns.proofs.Lent.{each_back}
 use Rattle.columns.proofs.output.scale_chunk.Goals as goal
 

@@ -1,12 +1,9 @@
 use mathlib.Core.Path.{◌≡◌, sym, ap, ◌∙◌}
-use Prim.Native.Nat.{◌+◌, ◌*◌, ◌≤◌}
 use native.Mathlib.Omega.{arith}
-use native.Mathlib.Nat.{mul-le-mul}
 use Rattle.definition.specs.Arith.{ieee64}
 use Rattle.definition.specs.Memory.{place, block_of}
 use Rattle.definition.specs.ChunkedColumnReduce.{sum_up}
 use Rattle.definition.proofs.Sums.{sum-none, sum_more}
-use Rattle.definition.proofs.Places.{row_end}
 use Rattle.columns.proofs.output.turned_number.Goals as goal
 use Rattle.columns.proofs.output.turned_number.Goals.{In-loop-p}
 
