@@ -51,6 +51,7 @@ all_first_none t u (x ∷ xs) h = ap (λ (b : Bool). b && list_all u xs) (h x) �
     same : (b : Bool) → eqb (position_or_len t xs) (length xs) ≡ b → b ≡ eqb (1 + position_or_len t xs) (suc (length xs))
     same true e = sym (eq-eqb (1 + position_or_len t xs) (suc (length xs)) (omega (arith, eqb-true (position_or_len t xs) (length xs) e)))
     same false e = sym (ne_eqb (1 + position_or_len t xs) (suc (length xs)) (λ h. eqb-false (position_or_len t xs) (length xs) e (omega arith)))
+
     go : (b : Bool) → list_all u xs ≡ eqb (position_or_len t xs) (length xs) → not b && list_all u xs ≡ eqb (cond (not b) (1 + position_or_len t xs) 0) (suc (length xs))
     go true e = sym (ne_eqb 0 (suc (length xs)) (λ q. omega arith))
     go false e = e ∙ same (eqb (position_or_len t xs) (length xs)) refl

@@ -148,7 +148,13 @@ pub fn refresh_rows(
         (number_at rows k (with_column ieee64 (block_of nan rows k part.old) c (λ r. ieee64.start (fresh_index n k round c (first + r)))))
         part.old }
 {
-    write_rows(k, c, rows, part, |r, _| fresh_number(n, k, round, c, first + r));
+    write_rows(
+        k,
+        c,
+        rows,
+        part,
+        |r, _| fresh_number(n, k, round, c, first + r),
+    );
 }
 
 // The same in a chunk of the block.

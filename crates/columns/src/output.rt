@@ -125,13 +125,7 @@ fn column_means(n: usize, d: usize, sums: &[f64; 225]) -> [f64; 7]
 }
 
 // Each number of one row, at `at`, made what `change` gives for it and its column's number of `by`.
-fn change_row<F: Fn(f64, f64) -> f64>(
-    d: usize,
-    by: &[f64],
-    at: usize,
-    part: &mut [f64],
-    change: &F,
-)
+fn change_row<F: Fn(f64, f64) -> f64>(d: usize, by: &[f64], at: usize, part: &mut [f64], change: &F)
     requires sizes { (d ≤ length by.now) × (at + d ≤ length part.old) }
     requires callable { F.IsAlwaysCallable change.now }
     ensures { (f : Float → Float → Float) → ((x y z : Float) → F.post change.now x y z → z ≡ f x y)

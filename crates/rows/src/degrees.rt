@@ -18,7 +18,8 @@ fn sum_values(values: &[f64], a: usize, e: usize) -> f64
     sum
 }
 
-// The rows from `first` on, as many as the two parts have.
+// The rows from `first` on, as many as the two parts have. By index: a row reads two places of
+// `starts` and writes one of each part.
 fn degrees_rows(first: usize, starts: &[u64], values: &[f64], inverse: &mut [f64], v0: &mut [f64])
     requires v0_len { length v0.old ≡ length inverse.old }
     requires starts { Starts starts.now first (first + length inverse.old) (length values.now) }

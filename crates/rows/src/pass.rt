@@ -168,7 +168,8 @@ fn matvec_combine_rows(
     }
 }
 
-// The rows from `first` up to `end` of the block `out`: filter pass and plain pass alike.
+// The rows from `first` up to `end` of the block `out`: filter pass and plain pass alike. The lists and
+// the three numbers stay apart here: `blocks` cites this signature, and so does rows_c's C name.
 pub fn matvec_combine(
     n: usize,
     k: usize,

@@ -3,24 +3,9 @@ use native.Mathlib.Omega.{arith}
 use lib.Ieee.{nan}
 use Rattle.definition.specs.Arith.{ieee64}
 use Rattle.definition.specs.OrthonormalizeBlock.{written}
-use Rattle.definition.proofs.Blocks.{span-places, part-number}
-use Rattle.columns.proofs.Lent.{lent-part, column_back}
+use Rattle.definition.proofs.Blocks.{part-number}
+use Rattle.columns.proofs.Lent.{column_back}
 use Rattle.columns.proofs.divide_chunk.Goals as goal
-
-pub overflow_mul-a : goal.overflow_mul-a
-overflow_mul-a c = omega (arith, span-places _ c.requires.span c.requires.enough)
-
-pub overflow_mul-e : goal.overflow_mul-e
-overflow_mul-e c = omega (arith, span-places _ c.requires.span c.requires.enough)
-
-pub offset_bounds-block-a : goal.offset_bounds-block-a
-offset_bounds-block-a c = omega (arith, span-places _ c.requires.span c.requires.enough)
-
-pub slice_bounds-divide_rows-count : goal.slice_bounds-divide_rows-count
-slice_bounds-divide_rows-count c = omega (arith, span-places _ c.requires.span c.requires.enough)
-
-pub divide_rows-requires : goal.divide_rows-requires
-divide_rows-requires c = lent-part c.requires
 
 pub returns : goal.returns
 unfolding written

@@ -14,24 +14,6 @@ sizes c =
     let h : (c.args.round + 1) * c.args.n ≤ 1_000 * 1_048_576 = mul-le-mul {n₁ = c.args.round + 1} {m₁ = c.args.n} {n₂ = 1_000} {m₂ = 1_048_576} early c.requires.fresh.rows in
     (h, mul-le-mul {n₁ = (c.args.round + 1) * c.args.n} {m₁ = c.args.k} {n₂ = 1_000 * 1_048_576} {m₂ = 15} h c.requires.fresh.width.most, mul-le-mul {n₁ = c.args.c} {m₁ = c.args.n} {n₂ = 15} {m₂ = 1_048_576} before c.requires.fresh.rows)
 
-pub overflow_mul-index-2 : goal.overflow_mul-index-2
-overflow_mul-index-2 c = omega (arith, sizes (goal.at.overflow_mul-index-2 c).Start)
-
-pub overflow_mul-index-3 : goal.overflow_mul-index-3
-overflow_mul-index-3 c = omega (arith, sizes (goal.at.overflow_mul-index-3 c).Start)
-
-pub overflow_add-index-2 : goal.overflow_add-index-2
-overflow_add-index-2 c = omega (arith, sizes (goal.at.overflow_add-index-2 c).Start)
-
-pub overflow_add-index-3 : goal.overflow_add-index-3
-overflow_add-index-3 c = omega (arith, sizes (goal.at.overflow_add-index-3 c).Start)
-
 pub returns : goal.returns
 unfolding fresh_index narrowed
 returns c = c.splitmix_unit.ensures
-
-pub overflow_add-index : goal.overflow_add-index
-overflow_add-index c = omega (arith, sizes (goal.at.overflow_add-index c).Start)
-
-pub overflow_mul-index : goal.overflow_mul-index
-overflow_mul-index c = omega (arith, sizes (goal.at.overflow_mul-index c).Start)

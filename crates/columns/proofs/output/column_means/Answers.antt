@@ -1,17 +1,8 @@
 use mathlib.Core.Path.{refl}
-use Prim.Native.Nat.{◌^◌, ◌≤◌}
 use native.Mathlib.Omega.{arith}
 use lib.ListN.{length-set}
-use lib.Ieee.{in_float}
-use lib.Dec.{le→leb}
 use Rattle.definition.proofs.Fill.{fill_start, fill_step, fill_to}
 use Rattle.columns.proofs.output.column_means.Goals as goal
-
-pub int_to_float-count : goal.int_to_float-count
-unfolding in_float
-int_to_float-count c =
-    let h : c.args.n ≤ 2 ^ 53 = omega arith in
-    le→leb _ _ h
 
 pub loop-j-init : goal.loop-j-init
 loop-j-init c = (omega arith, refl, fill_start _ _ _)

@@ -1,5 +1,5 @@
 use mathlib.Core.Path.{◌≡◌}
-use Prim.Native.Nat.{◌-◌, ◌≤◌}
+use Prim.Native.Nat.{◌≤◌}
 use lib.ListN.{length, replicate}
 use lib.Ieee.{nan}
 use Rattle.definition.specs.Arith.{ieee64}

@@ -1,17 +1,7 @@
 use mathlib.Core.Path.{ap, ◌∙◌}
-use Prim.Native.Nat.{◌≤◌, ◌^◌}
-use native.Mathlib.Omega.{arith}
-use lib.Dec.{le→leb}
-use lib.Ieee.{in_float}
 use Rattle.definition.specs.Arith.{ieee64}
 use Rattle.definition.specs.SpectralEmbedding.{scale_of, spread}
 use Rattle.columns.proofs.output.column_scale.Goals as goal
-
-pub int_to_float-count : goal.int_to_float-count
-unfolding in_float
-int_to_float-count c =
-    let h : c.args.n ≤ 2 ^ 53 = omega arith in
-    le→leb _ _ h
 
 pub returns : goal.returns
 unfolding spread

@@ -16,11 +16,5 @@ loop-j-preserved c =
     let e : at + l.j - at ≡ l.j = omega arith in
     cells_more _ _ _ _ l.invariant c.loop-j-test.true (rw (e, c.turned_number.ensures))
 
-pub shape_of-part : goal.shape_of-part
-shape_of-part c = c.loop-j.invariant.size
-
 pub returns : goal.returns
 returns c = cells_end _ _ _ _ c.loop-j.invariant c.loop-j-test.false refl
-
-pub turned_number-requires : goal.turned_number-requires
-turned_number-requires c = (c.requires.k_bound.0, c.requires.columns.below c.loop-j.j (omega arith) (omega arith), c.requires.k_bound.2)

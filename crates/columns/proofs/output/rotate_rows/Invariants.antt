@@ -1,4 +1,3 @@
-use Prim.Native.Nat.{◌-◌}
 use lib.Ieee.{nan}
 use Rattle.definition.specs.Arith.{ieee64}
 use Rattle.definition.specs.Memory.{vector_of, block_of}

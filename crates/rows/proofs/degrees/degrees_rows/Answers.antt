@@ -10,11 +10,6 @@ use Rattle.rows.proofs.degrees.degrees_rows.Goals as goal
 pub loop-i-init : goal.loop-i-init
 loop-i-init c = (omega arith, refl, refl, fill_start _ _ _, fill_start _ _ _)
 
-pub sum_values-requires : goal.sum_values-requires
-sum_values-requires c =
-    let i = c.args.first + c.loop-i.i in
-    (c.requires.starts.rising i (omega arith) (omega arith), c.requires.starts.within (i + 1) (omega arith) (omega arith))
-
 pub loop-i-preserved : goal.loop-i-preserved
 unfolding degree degree_root inverse_weight
 loop-i-preserved c =
@@ -26,12 +21,6 @@ loop-i-preserved c =
       fill_step _ _ _ _ (omega arith) l.invariant.3 (c.inverse_of.ensures ∙ ap (inverse_of ieee64) root),
       fill_step _ _ _ _ (omega arith) l.invariant.4 root,
     )
-
-pub shape_of-inverse : goal.shape_of-inverse
-shape_of-inverse c = c.loop-i.invariant.1
-
-pub shape_of-v0 : goal.shape_of-v0
-shape_of-v0 c = c.loop-i.invariant.2
 
 pub returns : goal.returns
 returns c =

@@ -7,9 +7,6 @@ use Rattle.definition.proofs.Fill.{fill_cong}
 use Rattle.rows.proofs.Passes.{own-entries, own-gathered}
 use Rattle.rows.proofs.pass.gather.Goals as goal
 
-pub gather_view-requires : goal.gather_view-requires
-gather_view-requires c = own-entries c.requires c.new.ensures.0 c.new.ensures.1
-
 pub returns : goal.returns
 returns c =
     let h = c.new.ensures in

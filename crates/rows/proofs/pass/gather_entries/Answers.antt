@@ -9,23 +9,8 @@ use Rattle.rows.proofs.Passes.{gathered_none, gathered-more}
 use Rattle.rows.proofs.pass.gather_entries.Goals as goal
 use Rattle.rows.proofs.pass.gather_entries.Goals.{In-loop-p}
 
--- the row that an entry names lies in the block
-row : (c : In-loop-p) → get_or c.args.columns.now c.loop-p.p 0 * c.args.k + c.args.k ≤ length c.args.v.now
-row c =
-    let p = c.loop-p.p in
-    omega (arith, row_end (get_or c.args.columns.now p 0) c.args.k c.args.n (c.requires.columns_below.below p (omega arith) (omega arith)), c.requires.v_enough)
-
 pub loop-p-init : goal.loop-p-init
 loop-p-init c = (omega arith, fill_same _ _ _ _ ieee64.none (λ i p q r. get_or-replicate 15 i _ _ r ∙ sym (gathered_none ieee64 _ _ _ _ _ _ i)))
-
-pub overflow_cast-row : goal.overflow_cast-row
-overflow_cast-row c = omega (arith, c.type_inv.columns c.loop-p.p)
-
-pub overflow_mul-row : goal.overflow_mul-row
-overflow_mul-row c = omega (arith, row (goal.at.overflow_mul-row c).In-loop-p)
-
-pub add_entry-requires : goal.add_entry-requires
-add_entry-requires c = omega (arith, row (goal.at.add_entry-requires c).In-loop-p)
 
 pub loop-p-preserved : goal.loop-p-preserved
 loop-p-preserved c = (omega arith, fill_again 0 _ _ _ _ _ ieee64.none c.loop-p.invariant.1 c.add_entry.ensures (λ i p q h. rw h (gathered-more ieee64 _ _ _ _ _ _ _ i (omega (arith, c.loop-p.invariant)))))

@@ -8,27 +8,6 @@ use Rattle.rows.proofs.pass.matvec_combine_rows.Goals.{In_default}
 last : (c : In_default) → c.args.k ≡ 15
 last c = omega (arith, c.requires.pass.width)
 
-pub combine_rows-requires : goal.combine_rows-requires
-combine_rows-requires c = record { pass = rw c.in-9.is at c.requires.pass; out_len = rw c.in-9.is at c.requires.out_len }
-
-pub combine_rows-requires-in-10 : goal.combine_rows-requires-in-10
-combine_rows-requires-in-10 c = record { pass = rw c.in-10.is at c.requires.pass; out_len = rw c.in-10.is at c.requires.out_len }
-
-pub combine_rows-requires-in-11 : goal.combine_rows-requires-in-11
-combine_rows-requires-in-11 c = record { pass = rw c.in-11.is at c.requires.pass; out_len = rw c.in-11.is at c.requires.out_len }
-
-pub combine_rows-requires-in-12 : goal.combine_rows-requires-in-12
-combine_rows-requires-in-12 c = record { pass = rw c.in-12.is at c.requires.pass; out_len = rw c.in-12.is at c.requires.out_len }
-
-pub combine_rows-requires-in-13 : goal.combine_rows-requires-in-13
-combine_rows-requires-in-13 c = record { pass = rw c.in-13.is at c.requires.pass; out_len = rw c.in-13.is at c.requires.out_len }
-
-pub combine_rows-requires-in-14 : goal.combine_rows-requires-in-14
-combine_rows-requires-in-14 c = record { pass = rw c.in-14.is at c.requires.pass; out_len = rw c.in-14.is at c.requires.out_len }
-
-pub combine_rows-requires-in_default : goal.combine_rows-requires-in_default
-combine_rows-requires-in_default c = record { pass = rw (last (goal.at.combine_rows-requires-in_default c).In_default) at c.requires.pass; out_len = rw (last (goal.at.combine_rows-requires-in_default c).In_default) at c.requires.out_len }
-
 pub returns-in-9 : goal.returns-in-9
 returns-in-9 c = rw c.in-9.is c.combine_rows.ensures
 

@@ -14,8 +14,5 @@ loop-p-preserved c =
     let l = c.loop-p in
     (omega arith, simp length-set l.invariant.1, fill_step _ _ _ _ (omega arith) l.invariant.2 c.splitmix_unit.ensures)
 
-pub shape_of-rows : goal.shape_of-rows
-shape_of-rows c = c.loop-p.invariant.1
-
 pub returns : goal.returns
 returns c = fill_to _ _ _ c.loop-p.invariant.2 (omega arith)
