@@ -13,7 +13,7 @@ use Rattle.definition.specs.Refusals.{Verdict, accepted, refused, given, test_di
 use Rattle.definition.specs.SpectralEmbedding.{Counts}
 use Rattle.digits.specs.Placed.{put}
 use Rattle.input.proofs.Accepted.{no-fault, both_pass, dims_valid}
-use Rattle.input.proofs.Verdicts.{refuses, goes_on_lem, faulty, faultless, faulty_first, faultless_first}
+use Rattle.input.proofs.Verdicts.{goes_on_lem, goes_past, faulty, faultless, faulty_first, faultless_first}
 use Rattle.printing.specs.Printed.{answer_name, at_name, refusal_text, head_text, rows_text, seed_text, room}
 use Rattle.printing.specs.Answer.{rows_most, test_seed, test_printed, answer_text, test_answer}
 use Rattle.printing.specs.Room.{length_by, bytes_by, Leaves}
@@ -21,31 +21,26 @@ use Rattle.printing.proofs.Leaving.{room-enough}
 use Rattle.printing.proofs.Texts.{pair_most, head-most, rows-most}
 
 -- ---- the seed's tests, one after the other
-module _ (d n numbers : ℕ) {dims : Verdict} (e : dims ≡ test_dims d) where
-  pub bad_dims : (dims.number ≡ 0 → ⊥) → dims ≡ test_seed d n numbers
+module _ (d n numbers : ℕ) (e : accepted ≡ test_dims d) where
+  pub no_rows : n ≡ 0 → refused 2 0 ≡ test_seed d n numbers
   unfolding test_seed
-  bad_dims f = refuses e _ f
+  no_rows h = goes_past e (faulty_first (eqb n 0) 1 0 _ (eq-eqb n 0 h) refl)
 
-  module _ (z : dims.number ≡ 0) where
-    pub no_rows : n ≡ 0 → refused 2 0 ≡ test_seed d n numbers
+  pub many_rows : rows_most < n → refused 17 0 ≡ test_seed d n numbers
+  unfolding test_seed
+  many_rows h =
+      goes_past e (faultless_first (eqb n 0) 2 0 (ne_eqb n 0 (omega arith)) (faulty_first (ltb rows_most n) 16 0 _ (lt-ltb rows_most n h) refl))
+
+  module _ (some : n ≡ 0 → ⊥) (few : n ≤ rows_most) where
+    short_left : {v : Verdict} → v ≡ given (ltb numbers (n * d)) 11 9 → v ≡ test_seed d n numbers
     unfolding test_seed
-    no_rows h = goes_on_lem e z (faulty_first (eqb n 0) 1 0 _ (eq-eqb n 0 h) refl)
+    short_left g = goes_past e (faultless_first (eqb n 0) 2 0 (ne_eqb n 0 some) (faultless_first (ltb rows_most n) 17 0 (le-ltb rows_most n few) g))
 
-    pub many_rows : rows_most < n → refused 17 0 ≡ test_seed d n numbers
-    unfolding test_seed
-    many_rows h =
-        goes_on_lem e z (faultless_first (eqb n 0) 2 0 (ne_eqb n 0 (omega arith)) (faulty_first (ltb rows_most n) 16 0 _ (lt-ltb rows_most n h) refl))
+    pub short-seed : numbers < n * d → refused 11 9 ≡ test_seed d n numbers
+    short-seed h = short_left (faulty (ltb numbers (n * d)) 10 9 (lt-ltb numbers (n * d) h) refl)
 
-    module _ (some : n ≡ 0 → ⊥) (few : n ≤ rows_most) where
-      short_left : {v : Verdict} → v ≡ given (ltb numbers (n * d)) 11 9 → v ≡ test_seed d n numbers
-      unfolding test_seed
-      short_left g = goes_on_lem e z (faultless_first (eqb n 0) 2 0 (ne_eqb n 0 some) (faultless_first (ltb rows_most n) 17 0 (le-ltb rows_most n few) g))
-
-      pub short-seed : numbers < n * d → refused 11 9 ≡ test_seed d n numbers
-      short-seed h = short_left (faulty (ltb numbers (n * d)) 10 9 (lt-ltb numbers (n * d) h) refl)
-
-      pub right-seed : n * d ≤ numbers → accepted ≡ test_seed d n numbers
-      right-seed h = short_left (faultless (ltb numbers (n * d)) 11 9 (le-ltb numbers (n * d) h) refl)
+    pub right-seed : n * d ≤ numbers → accepted ≡ test_seed d n numbers
+    right-seed h = short_left (faultless (ltb numbers (n * d)) 11 9 (le-ltb numbers (n * d) h) refl)
 
 -- a seed that passes
 pub record Printable (d n numbers : ℕ) : Type 0 where
