@@ -1,4 +1,5 @@
 -- each test passes until one refuses.
+use mathlib.Core.Path.{refl}
 use native.Mathlib.Nat.{mul-le-mul}
 use native.Mathlib.Omega.{arith}
 use Rattle.input.proofs.Accepted.{dims_valid}
@@ -14,12 +15,12 @@ returns-in_err-test_dims c = stops _ _ c.from_residual.ensures.1 _ c.in_err-test
 pub returns-then-n-eq0 : goal.returns-then-n-eq0
 returns-then-n-eq0 c =
     let a = c.args in
-    no_rows a.d a.n a.numbers c.in_ok-test_dims.ensures c.if-n-eq0.true
+    no_rows a.d a.n a.numbers c.in_ok-test_dims.ensures refl c.if-n-eq0.true
 
 pub returns-then-n-gt-ROWS_MOST : goal.returns-then-n-gt-ROWS_MOST
 returns-then-n-gt-ROWS_MOST c =
     let a = c.args in
-    many_rows a.d a.n a.numbers c.in_ok-test_dims.ensures c.if-n-gt-ROWS_MOST.true
+    many_rows a.d a.n a.numbers c.in_ok-test_dims.ensures refl c.if-n-gt-ROWS_MOST.true
 
 pub overflow_mul-n : goal.overflow_mul-n
 overflow_mul-n c =
@@ -29,9 +30,9 @@ overflow_mul-n c =
 pub returns-then-numbers-n : goal.returns-then-numbers-n
 returns-then-numbers-n c =
     let a = c.args in
-    short-seed a.d a.n a.numbers c.in_ok-test_dims.ensures c.if-n-eq0.false c.if-n-gt-ROWS_MOST.false c.if-numbers-n.true
+    short-seed a.d a.n a.numbers c.in_ok-test_dims.ensures refl c.if-n-eq0.false c.if-n-gt-ROWS_MOST.false c.if-numbers-n.true
 
 pub returns : goal.returns
 returns c =
     let a = c.args in
-    right-seed a.d a.n a.numbers c.in_ok-test_dims.ensures c.if-n-eq0.false c.if-n-gt-ROWS_MOST.false c.if-numbers-n.false
+    right-seed a.d a.n a.numbers c.in_ok-test_dims.ensures refl c.if-n-eq0.false c.if-n-gt-ROWS_MOST.false c.if-numbers-n.false
