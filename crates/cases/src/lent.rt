@@ -1,6 +1,5 @@
 // The memory that is lent to a writer, and whether the writer answered and left what it must.
-use input::Verdict;
-use printing::WrittenText;
+use input::{Refusal, Verdict};
 use std::array;
 
 // More than any text needs.
@@ -38,7 +37,11 @@ fn stands(text: &[u8], memory: &[u8]) -> bool {
 
 // Lends a writer so many bytes, and all there are where that is less. Whether it wrote the whole text, or refused what it is asked, or
 // answered 18 as the room is shorter than the text; a writer that refuses must write nothing.
-pub fn is_right<F: FnOnce(&mut [u8]) -> WrittenText>(write: F, due: Due, room: usize) -> bool
+pub fn is_right<F: FnOnce(&mut [u8]) -> Result<usize, Refusal>>(
+    write: F,
+    due: Due,
+    room: usize,
+) -> bool
     requires { F.IsAlwaysCallable write }
 {
     let mut memory: [u8; ROOM] = array::from_fn(blank);
@@ -49,7 +52,7 @@ pub fn is_right<F: FnOnce(&mut [u8]) -> WrittenText>(write: F, due: Due, room: u
         Ok(_) => (NO_ROOM, &[][..]),
         Err(refusal) => (refusal, &[][..]),
     };
-    (written.verdict.number, written.verdict.place) == (verdict.number, verdict.place)
-        && written.length == text.len()
+    Verdict::from(written.map(|_| ())) == verdict
+        && written.unwrap_or(0) == text.len()
         && stands(text, &memory)
 }
