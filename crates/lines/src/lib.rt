@@ -270,7 +270,8 @@ pub fn read_line(text: &[u8], at: usize) -> LineRead
     }
 }
 
-// What the lines of a text say, one by one.
+// What the lines of a text say, one by one. The loops that give a line's place back, or count lines, go from place to place by `read_line`: the
+// place tells that their count of lines has room, which no item of this iterator tells.
 #[derive(Drop)]
 pub struct Lines<'a>(pub &'a [u8]);
 
