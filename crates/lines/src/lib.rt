@@ -4,7 +4,8 @@
 ghost use Rattle.std.specs.Prelude.{◌≡◌, false, [], ◌∷◌, ◌+◌, ◌*◌, ◌^◌, ◌≤◌, ◌<◌, length, drop, not, IsTrue, IfSome, MatchOption, SomeIff};
 ghost use Rattle.std.specs.List.{list_all, take_while};
 ghost use Rattle.lines.specs.Lines.{begins, holds, is_blank, words_of};
-ghost use Rattle.lines.specs.Kinds.{kind_of, numbers_in};
+ghost use Rattle.std.specs.Iterator.{YieldsFirst, item_count};
+ghost use Rattle.lines.specs.Kinds.{kind_of, numbers_in, kinds_at};
 ghost use Rattle.lines.specs.declared.Kind.TheVariants.{Other};
 ghost use Rattle.lines.specs.Banner.{same_by, is_letter, are_words, is_banner};
 ghost use Rattle.lines.specs.Read.{ReadsLine, ReadsBanner};
@@ -266,6 +267,28 @@ pub fn read_line(text: &[u8], at: usize) -> LineRead
     match read_plain(text, at) {
         Some(line) => line,
         None => read_any_line(text, at),
+    }
+}
+
+// What the lines of a text say, one by one. The loops that give a line's place back, or count lines, go from place to place by `read_line`: the
+// place tells that their count of lines has room, which no item of this iterator tells.
+#[derive(Drop)]
+pub struct Lines<'a>(pub &'a [u8]);
+
+impl<'a> Iterator for Lines<'a> {
+    type Item = Kind;
+
+    ghost next_gives = { YieldsFirst (λ s. kinds_at s.0.now 0) };
+
+    ghost remaining = { item_count (λ s. kinds_at s.0.now 0) };
+
+    fn next(&mut self) -> Option<Kind> {
+        if self.0.is_empty() {
+            return None;
+        }
+        let line = read_line(self.0, 0);
+        self.0 = &self.0[line.next..];
+        Some(line.kind)
     }
 }
 

@@ -10,7 +10,7 @@ ghost use Rattle.market.specs.Passes.{repeat_from};
 ghost use Rattle.repeated.specs.Blocks.{hits, first_of, meet_from};
 ghost use Rattle.repeated.specs.Tables.{places, folded, key_of, hash_of, stored, Chained, Keeps, Holds, Fills, Passed};
 
-use lines::Kind;
+use lines::{Kind, Lines};
 use std::marker::Model;
 
 // The places of a block, and the entries: place 0 is nobody's.
@@ -139,12 +139,8 @@ fn among_first(text: &[u8], from: usize, count: usize, row: u64, column: u64) ->
     requires { from ≤ length text.now }
     ensures { result ≡ has (first_of text.now from count) row column }
 {
-    let mut at = from;
     let mut left = count;
-    while at < text.len() {
-        let line = lines::read_line(text, at);
-        at = line.next;
-        let kind = line.kind;
+    for kind in Lines(&text[from..]) {
         let Kind::Entry(r, c) = kind else {
             continue;
         };

@@ -1,13 +1,12 @@
--- The invariant: `left` entries from `at` on are to be looked at.
+-- The invariant: the entry is looked for among those `left` of what is still to come.
 use mathlib.Core.Path.{◌≡◌}
-use Prim.Native.Nat.{◌-◌, ◌≤◌}
 use lib.ListN.{length}
 use Rattle.market.specs.Market.{has}
 use Rattle.repeated.specs.Blocks.{first_of}
 use Rattle.repeated.proofs.among_first.Given as goal
 
-abbrev pub invariant-loop-at : goal.invariant-loop-at
-invariant-loop-at l = (l.at ≤ length l.text) × (has (first_of l.text l.from l.count) l.row l.column ≡ has (first_of l.text l.at l.left) l.row l.column)
-
-abbrev pub decreases-loop-at : goal.decreases-loop-at
-decreases-loop-at l = length l.text - l.at
+abbrev pub invariant-loop-kind : goal.invariant-loop-kind
+invariant-loop-kind l =
+    (goal.iterator-loop-kind).can_next l.kind-iterator
+    × (goal.iterator-loop-kind).is_finite l.kind-iterator
+    × (has (first_of l.text l.from l.count) l.row l.column ≡ has (first_of l.kind-iterator.0.now 0 l.left) l.row l.column)
