@@ -6,6 +6,7 @@ ghost use Rattle.machine.specs.State.{chunk_count, wide};
 ghost use Rattle.machine.specs.Ready.{AskedReady, ProgressReady};
 ghost use Rattle.state.specs.Said.{asked_in, progress_in};
 
+use numbers::Rows;
 use state::{Asked, Progress};
 
 #[derive(Clone, Copy)]
@@ -31,6 +32,21 @@ impl Chunk {
         ensures { result ≡ first_row self.asked.rows (self.number + 1) }
     {
         input::end_row(self.asked.rows, self.number)
+    }
+
+    // Its rows of a block.
+    pub fn rows(self) -> Rows
+        ensures n { result.n ≡ self.asked.rows }
+        ensures width { result.width ≡ wide (asked_in self.asked) }
+        ensures first { result.first ≡ first_row self.asked.rows self.number }
+        ensures end { result.end ≡ first_row self.asked.rows (self.number + 1) }
+    {
+        Rows {
+            n: self.asked.rows,
+            width: self.asked.width(),
+            first: self.first(),
+            end: self.end(),
+        }
     }
 
     // The place of its partial among the partials of all chunks.

@@ -22,17 +22,7 @@ fn subtract_block(chunk: Chunk, dots: &[f64; 225], v0: &[f64], block: &mut [f64]
         (number_at n k (subtracted ieee64 (vector_of ieee64.none dots.now) (vector_of ieee64.none v0.now)
         (block_of ieee64.none n k block.old) chunk.progress.column)) block.old }
 {
-    let asked = chunk.asked;
-    columns::subtract_chunk(
-        asked.rows,
-        asked.width(),
-        chunk.progress.column,
-        dots,
-        chunk.first(),
-        chunk.end(),
-        v0,
-        block,
-    );
+    columns::subtract_chunk(chunk.rows(), chunk.progress.column, dots, v0, block);
 }
 
 // The column at hand less its delta, by the dots that the totals hold.
@@ -65,17 +55,14 @@ fn write_block(chunk: Chunk, block: &mut [f64])
         block.new ≡ fill_where (own_place n k chunk.number)
         (number_at n k (written ieee64 n k t.round t.column (ending_in ieee64 t) (block_of ieee64.none n k block.old))) block.old }
 {
-    let n = chunk.asked.rows;
-    let k = chunk.asked.width();
-    let first = chunk.first();
-    let end = chunk.end();
+    let own = chunk.rows();
     let progress = chunk.progress;
     let c = progress.column;
     let ending = numbers::collapse_test(progress.before, progress.norm, progress.attempt == 1);
     match ending {
-        Ending::Kept(norm) => columns::divide_chunk(n, k, c, norm, first, end, block),
-        Ending::Refreshed => columns::refresh_chunk(n, k, c, progress.round, first, end, block),
-        Ending::Zeroed => columns::zero_chunk(n, k, c, first, end, block),
+        Ending::Kept(norm) => columns::divide_chunk(own, c, norm, block),
+        Ending::Refreshed => columns::refresh_chunk(own, c, progress.round, block),
+        Ending::Zeroed => columns::zero_chunk(own, c, block),
     }
 }
 

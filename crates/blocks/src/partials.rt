@@ -16,14 +16,10 @@ pub fn norm_stage(blocks: Blocks<'_>, partials: &mut [f64])
         (lent_in inverse v0 edge_columns edge_weights b.block0.now b.block1.now b.block2.now partials.old output) }
 {
     let chunk = blocks.chunk;
-    let asked = chunk.asked;
     let progress = chunk.progress;
     sums::norm_partial(
-        asked.rows,
-        asked.width(),
+        chunk.rows(),
         progress.column,
-        chunk.first(),
-        chunk.end(),
         blocks.pick(progress.current),
         chunk.partial(),
         partials,
@@ -40,14 +36,10 @@ pub fn dots_stage(blocks: Blocks<'_>, v0: &[f64], partials: &mut [f64])
         (lent_in inverse v0.now edge_columns edge_weights b.block0.now b.block1.now b.block2.now partials.old output) }
 {
     let chunk = blocks.chunk;
-    let asked = chunk.asked;
     let progress = chunk.progress;
     sums::dots_partial(
-        asked.rows,
-        asked.width(),
+        chunk.rows(),
         progress.column,
-        chunk.first(),
-        chunk.end(),
         v0,
         blocks.pick(progress.current),
         chunk.partial(),
@@ -64,18 +56,8 @@ pub fn products_stage(blocks: Blocks<'_>, partials: &mut [f64])
         (lent_in inverse v0 edge_columns edge_weights b.block0.now b.block1.now b.block2.now partials.old output) }
 {
     let chunk = blocks.chunk;
-    let asked = chunk.asked;
     let current = chunk.progress.current;
     let v = blocks.pick(current);
     let w = blocks.pick(state::free_block(current, current));
-    sums::products_partial(
-        asked.rows,
-        asked.width(),
-        chunk.first(),
-        chunk.end(),
-        v,
-        w,
-        chunk.partial(),
-        partials,
-    );
+    sums::products_partial(chunk.rows(), v, w, chunk.partial(), partials);
 }

@@ -13,6 +13,7 @@ ghost use Rattle.blocks.specs.Chosen.{chosen, BlocksReady, EdgesReady};
 use crate::choice::Blocks;
 use crate::chunk::Chunk;
 use numbers::Multipliers;
+use rows::Operator;
 
 // What a pass reads beside the blocks: the row starts, the entries of the chunk's rows, and the inverse weights.
 #[derive(Clone, Copy)]
@@ -32,14 +33,7 @@ pub fn start_stage(chunk: Chunk, block0: &mut [f64])
         ≡ on_block ieee64 (asked_in chunk.asked) 0 (start_block ieee64 (wide (asked_in chunk.asked))) chunk.number
         (lent_in inverse v0 edge_columns edge_weights block0.old block1 block2 partials output) }
 {
-    let asked = chunk.asked;
-    rows::start_block_chunk(
-        asked.rows,
-        asked.width(),
-        chunk.first(),
-        chunk.end(),
-        block0,
-    );
+    rows::start_block_chunk(chunk.rows(), block0);
 }
 
 // A pass over the current block and the one of number `previous`, into the chunk's rows of `out`.
@@ -60,19 +54,16 @@ fn pass_block(
         (chosen previous b.block0.now b.block1.now b.block2.now)) out.old }
 {
     let chunk = edges.chunk;
-    let asked = chunk.asked;
+    let op = Operator {
+        starts: edges.starts,
+        columns: edges.columns,
+        weights: edges.weights,
+        inverse: edges.inverse,
+    };
     rows::matvec_combine(
-        asked.rows,
-        asked.width(),
-        by.of_mv,
-        by.of_v,
-        by.of_prev,
-        chunk.first(),
-        chunk.end(),
-        edges.starts,
-        edges.columns,
-        edges.weights,
-        edges.inverse,
+        chunk.rows(),
+        by,
+        op,
         blocks.pick(chunk.progress.current),
         blocks.pick(previous),
         out,

@@ -6,6 +6,7 @@ ghost use Rattle.machine.specs.Work.{rotate_work};
 ghost use Rattle.state.specs.Said.{asked_in, progress_in, lent_in};
 
 use crate::choice::Blocks;
+use numbers::Rows;
 
 // The current block turned onto the first D Ritz vectors, and unscaled. One lifetime for vectors and
 // order, which a caller may keep in one record.
@@ -25,12 +26,13 @@ pub fn rotate_stage<'a>(
 {
     let chunk = blocks.chunk;
     let asked = chunk.asked;
+    let own = Rows {
+        width: asked.dims,
+        ..chunk.rows()
+    };
     columns::output::rotate_chunk(
-        asked.rows,
+        own,
         asked.width(),
-        asked.dims,
-        chunk.first(),
-        chunk.end(),
         blocks.pick(chunk.progress.current),
         vectors,
         order,

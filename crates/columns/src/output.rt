@@ -11,6 +11,8 @@ ghost use Rattle.definition.specs.ChebyshevRayleighRitz.{rotated};
 ghost use Rattle.definition.specs.SpectralEmbedding.{unscaled, centred, scaled, spread, scale_of};
 ghost use Rattle.columns.specs.Rows.{Output, Turned, shifted};
 
+use numbers::Rows;
+
 // A row of the basis times column q of the vectors, upward from +0.
 fn turned_number(k: usize, row: &[f64], vectors: &[f64; 225], q: usize) -> f64
     requires { (k ≤ 15) × (q < k) × (k ≤ length row.now) }
@@ -24,7 +26,7 @@ fn turned_number(k: usize, row: &[f64], vectors: &[f64; 225], q: usize) -> f64
 }
 
 // One row of output, at `at`: the row of the basis turned onto the first d Ritz vectors, times the
-// row's inverse weight.
+// row's inverse weight. By index: j is a place of `order` and one of the row (reason d).
 fn rotate_row(
     k: usize,
     d: usize,
@@ -74,27 +76,30 @@ pub fn rotate_rows(
     }
 }
 
-// The same in a chunk of the output. One lifetime for vectors and order, which a caller may keep in one
-// record.
+// The same in a chunk of the output, of a basis of k columns. One lifetime for vectors and order, which
+// a caller may keep in one record.
 pub fn rotate_chunk<'a>(
-    n: usize,
+    own: Rows,
     k: usize,
-    d: usize,
-    first: usize,
-    end: usize,
     v: &[f64],
     vectors: &'a [f64; 225],
     order: &'a [usize; 15],
     inverse: &[f64],
     output: &mut [f64],
 )
-    requires output { Output n d first end output.old }
-    requires turned { Turned n k d v.now inverse.now order.now }
-    ensures { output.new ≡ fill_range (place n d first 0) (place n d end 0)
+    requires output { Output own.n own.width own.first own.end output.old }
+    requires turned { Turned own.n k own.width v.now inverse.now order.now }
+    ensures { let n = own.n in let d = own.width in output.new ≡ fill_range (place n d own.first 0) (place n d own.end 0)
         (number_at n d (unscaled ieee64 (vector_of nan inverse.now)
         (rotated ieee64 k (block_of nan n k v.now) (block_of nan k k vectors.now) order.now)))
         output.old }
 {
+    let Rows {
+        n,
+        width: d,
+        first,
+        end,
+    } = own;
     let a = first * d;
     let e = end * d;
     rotate_rows(
@@ -111,7 +116,7 @@ pub fn rotate_chunk<'a>(
     );
 }
 
-// The mean of each of the d columns.
+// The mean of each of the d columns. By index: two cut lists side by side are no plainer (reason d).
 fn column_means(n: usize, d: usize, sums: &[f64; 225]) -> [f64; 7]
     requires { (n ≤ rows_most) × (d ≤ dims_most) }
     ensures { result ≡ fill_range 0 d (λ j. ieee64.div (vector_of nan sums.now j) (ieee64.whole n)) (replicate 7 ieee64.zero) }
@@ -166,24 +171,18 @@ pub fn centre_rows(d: usize, means: &[f64; 7], rows: usize, part: &mut [f64])
 }
 
 // The means of the columns whose sums these are, subtracted in a chunk of the output.
-pub fn centre_chunk(
-    n: usize,
-    d: usize,
-    sums: &[f64; 225],
-    first: usize,
-    end: usize,
-    output: &mut [f64],
-)
-    requires output { Output n d first end output.old }
-    requires n_le_rows_most { n ≤ rows_most }
-    ensures { output.new ≡ fill_range (place n d first 0) (place n d end 0)
+pub fn centre_chunk(own: Rows, sums: &[f64; 225], output: &mut [f64])
+    requires output { Output own.n own.width own.first own.end output.old }
+    requires n_le_rows_most { own.n ≤ rows_most }
+    ensures { let n = own.n in let d = own.width in output.new ≡ fill_range (place n d own.first 0) (place n d own.end 0)
         (number_at n d (centred ieee64 n (vector_of nan sums.now) (block_of nan n d output.old)))
         output.old }
 {
-    let means = column_means(n, d, sums);
-    let a = first * d;
-    let e = end * d;
-    centre_rows(d, &means, end - first, &mut output[a..e]);
+    let d = own.width;
+    let means = column_means(own.n, d, sums);
+    let a = own.first * d;
+    let e = own.end * d;
+    centre_rows(d, &means, own.end - own.first, &mut output[a..e]);
 }
 
 // Each row of a part times the columns' scales.
@@ -197,22 +196,16 @@ pub fn scale_rows(d: usize, scales: &[f64; 225], rows: usize, part: &mut [f64])
 }
 
 // The same in a chunk of the output.
-pub fn scale_chunk(
-    n: usize,
-    d: usize,
-    scales: &[f64; 225],
-    first: usize,
-    end: usize,
-    output: &mut [f64],
-)
-    requires { Output n d first end output.old }
-    ensures { output.new ≡ fill_range (place n d first 0) (place n d end 0)
+pub fn scale_chunk(own: Rows, scales: &[f64; 225], output: &mut [f64])
+    requires { Output own.n own.width own.first own.end output.old }
+    ensures { let n = own.n in let d = own.width in output.new ≡ fill_range (place n d own.first 0) (place n d own.end 0)
         (number_at n d (scaled ieee64 (vector_of nan scales.now) (block_of nan n d output.old)))
         output.old }
 {
-    let a = first * d;
-    let e = end * d;
-    scale_rows(d, scales, end - first, &mut output[a..e]);
+    let d = own.width;
+    let a = own.first * d;
+    let e = own.end * d;
+    scale_rows(d, scales, own.end - own.first, &mut output[a..e]);
 }
 
 // What a column of n rows is multiplied by, from its sum of squares: `target` by its standard

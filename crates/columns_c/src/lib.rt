@@ -8,6 +8,8 @@ ghost use Rattle.definition.specs.Memory.{place, vector_of, block_of, number_at,
 ghost use Rattle.definition.specs.OrthonormalizeBlock.{subtracted};
 ghost use Rattle.columns.specs.Rows.{Within};
 
+use numbers::Rows;
+
 #[unsafe(no_mangle)]
 pub extern "C" fn columns_subtract_chunk(
     n: usize,
@@ -25,5 +27,11 @@ pub extern "C" fn columns_subtract_chunk(
         (number_at n k (subtracted ieee64 (vector_of nan dots.now) (vector_of nan v0.now) (block_of nan n k block.old) c))
         block.old }
 {
-    columns::subtract_chunk(n, k, c, dots, first, end, v0, block);
+    let own = Rows {
+        n,
+        width: k,
+        first,
+        end,
+    };
+    columns::subtract_chunk(own, c, dots, v0, block);
 }

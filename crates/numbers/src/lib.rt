@@ -2,7 +2,10 @@
 #![tactic(auto)]
 
 mod pattern; // the root on bit patterns
+mod rows; // which rows of a block are a chunk's
 mod whole; // the root of whole numbers
+
+pub use rows::Rows;
 
 ghost use Rattle.std.specs.Prelude.{◌≡◌};
 ghost use Rattle.std.specs.Float.{binary64};

@@ -8,5 +8,5 @@ pub mod start; // start.rt: the start block
 pub mod pass; // pass.rt: one pass of the operator
 
 pub use degrees::{degrees_chunk, v0_chunk};
-pub use pass::matvec_combine;
+pub use pass::{Operator, matvec_combine};
 pub use start::start_block_chunk;

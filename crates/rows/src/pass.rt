@@ -1,14 +1,14 @@
 // One pass of the operator: a row at a time, its entries gathered into an array of at most 15
 // numbers, mixed, and copied out. A direct store into `out` would stop the compiler from keeping
-// the row in registers.
+// the row in registers. The array is as long as the widest row: fixed memory, no heap (reason a).
 ghost use Rattle.std.specs.Prelude.{◌≡◌, ◌+◌, ◌-◌, ◌*◌, ◌≤◌, length, replicate};
 ghost use Rattle.definition.specs.Arith.{ieee64};
 ghost use Rattle.definition.specs.MatvecCombine.{mixed_with, shifted};
 ghost use Rattle.definition.specs.Memory.{block_of, fill_range, place, vector_of};
 ghost use Rattle.numbers.specs.Answers.{multipliers_of};
-ghost use Rattle.rows.specs.Pass.{combined_at, gathered, multipliers, operator_of, Entries, Pass};
+ghost use Rattle.rows.specs.Pass.{combined_at, gathered, operator_of, Entries, Pass};
 
-use numbers::Multipliers;
+use numbers::{Multipliers, Rows};
 use view::RowView;
 
 // acc[c] + weight * v[from + c], for each c below k.
@@ -102,31 +102,30 @@ fn put_row(k: usize, row: &[f64; 15], to: usize, out: &mut [f64])
 
 // The operator that a pass applies: row starts, edge columns and weights, and inverse weights.
 #[derive(Clone, Copy)]
-struct Operator<'a> {
-    starts: &'a [u64],
-    columns: &'a [u32],
-    weights: &'a [f64],
-    inverse: &'a [f64],
+pub struct Operator<'a> {
+    pub starts: &'a [u64],
+    pub columns: &'a [u32],
+    pub weights: &'a [f64],
+    pub inverse: &'a [f64],
 }
 
-// The rows from `first` up to `end`: `out` begins at the first. A compiled copy for each width K.
+// The chunk's rows: `out` begins at the first. A compiled copy for each width K.
 fn combine_rows<const K: usize>(
-    n: usize,
+    own: Rows,
     by: Multipliers,
-    op: Operator,
-    first: usize,
-    end: usize,
+    op: Operator<'_>,
     v: &[f64],
     prev: &[f64],
     out: &mut [f64],
 )
-    requires pass { Pass n K first end op.starts.now op.columns.now op.weights.now op.inverse.now v.now prev.now }
-    requires out_len { length out.old ≡ (end - first) * K }
+    requires pass { Pass own.n K own.first own.end op.starts.now op.columns.now op.weights.now op.inverse.now v.now prev.now }
+    requires out_len { length out.old ≡ (own.end - own.first) * K }
     ensures { out.new ≡ fill_range 0 (length out.old)
-        (λ p. combined_at ieee64 n K (operator_of ieee64 op.entry.starts.now op.entry.columns.now op.entry.weights.now op.entry.inverse.now)
-        (multipliers_of by) v.now prev.now (place n K first 0 + p))
+        (λ p. combined_at ieee64 own.n K (operator_of ieee64 op.entry.starts.now op.entry.columns.now op.entry.weights.now op.entry.inverse.now)
+        (multipliers_of by) v.now prev.now (place own.n K own.first 0 + p))
         out.old }
 {
+    let Rows { n, first, end, .. } = own;
     let rows = end - first;
     for r in 0..rows {
         let i = first + r;
@@ -138,73 +137,50 @@ fn combine_rows<const K: usize>(
     }
 }
 
-// The rows from a up to e in the same way, by the copy for their width.
+// The same, by the copy for the rows' width.
 fn matvec_combine_rows(
-    n: usize,
-    k: usize,
+    own: Rows,
     by: Multipliers,
-    op: Operator,
-    a: usize,
-    e: usize,
+    op: Operator<'_>,
     v: &[f64],
     prev: &[f64],
     out: &mut [f64],
 )
-    requires pass { Pass n k a e op.starts.now op.columns.now op.weights.now op.inverse.now v.now prev.now }
-    requires out_len { length out.old ≡ (e - a) * k }
-    ensures { out.new ≡ fill_range 0 (length out.old)
+    requires pass { Pass own.n own.width own.first own.end op.starts.now op.columns.now op.weights.now op.inverse.now v.now prev.now }
+    requires out_len { length out.old ≡ (own.end - own.first) * own.width }
+    ensures { let n = own.n in let k = own.width in out.new ≡ fill_range 0 (length out.old)
         (λ p. combined_at ieee64 n k (operator_of ieee64 op.entry.starts.now op.entry.columns.now op.entry.weights.now op.entry.inverse.now)
-        (multipliers_of by) v.now prev.now (place n k a 0 + p))
+        (multipliers_of by) v.now prev.now (place n k own.first 0 + p))
         out.old }
 {
-    match k {
-        9 => combine_rows::<9>(n, by, op, a, e, v, prev, out),
-        10 => combine_rows::<10>(n, by, op, a, e, v, prev, out),
-        11 => combine_rows::<11>(n, by, op, a, e, v, prev, out),
-        12 => combine_rows::<12>(n, by, op, a, e, v, prev, out),
-        13 => combine_rows::<13>(n, by, op, a, e, v, prev, out),
-        14 => combine_rows::<14>(n, by, op, a, e, v, prev, out),
-        _ => combine_rows::<15>(n, by, op, a, e, v, prev, out),
+    match own.width {
+        9 => combine_rows::<9>(own, by, op, v, prev, out),
+        10 => combine_rows::<10>(own, by, op, v, prev, out),
+        11 => combine_rows::<11>(own, by, op, v, prev, out),
+        12 => combine_rows::<12>(own, by, op, v, prev, out),
+        13 => combine_rows::<13>(own, by, op, v, prev, out),
+        14 => combine_rows::<14>(own, by, op, v, prev, out),
+        _ => combine_rows::<15>(own, by, op, v, prev, out),
     }
 }
 
-// The rows from `first` up to `end` of the block `out`: filter pass and plain pass alike. The lists and
-// the three numbers stay apart here: `blocks` cites this signature, and so does rows_c's C name.
+// The chunk's rows of the block `out`: filter pass and plain pass alike.
 pub fn matvec_combine(
-    n: usize,
-    k: usize,
-    mul_mv: f64,
-    mul_v: f64,
-    mul_prev: f64,
-    first: usize,
-    end: usize,
-    starts: &[u64],
-    edge_columns: &[u32],
-    edge_weights: &[f64],
-    inverse: &[f64],
+    own: Rows,
+    by: Multipliers,
+    op: Operator<'_>,
     v: &[f64],
     prev: &[f64],
     out: &mut [f64],
 )
-    requires pass { Pass n k first end starts.now edge_columns.now edge_weights.now inverse.now v.now prev.now }
-    requires k_in_bounds { n * k ≤ length out.old }
-    ensures { out.new ≡ fill_range (place n k first 0) (place n k end 0)
-        (combined_at ieee64 n k (operator_of ieee64 starts.now edge_columns.now edge_weights.now inverse.now)
-        (multipliers ieee64 mul_mv mul_v mul_prev) v.now prev.now)
+    requires pass { Pass own.n own.width own.first own.end op.starts.now op.columns.now op.weights.now op.inverse.now v.now prev.now }
+    requires k_in_bounds { own.n * own.width ≤ length out.old }
+    ensures { let n = own.n in let k = own.width in out.new ≡ fill_range (place n k own.first 0) (place n k own.end 0)
+        (combined_at ieee64 n k (operator_of ieee64 op.entry.starts.now op.entry.columns.now op.entry.weights.now op.entry.inverse.now)
+        (multipliers_of by) v.now prev.now)
         out.old }
 {
-    let a = first * k;
-    let e = end * k;
-    let by = Multipliers {
-        of_mv: mul_mv,
-        of_v: mul_v,
-        of_prev: mul_prev,
-    };
-    let op = Operator {
-        starts,
-        columns: edge_columns,
-        weights: edge_weights,
-        inverse,
-    };
-    matvec_combine_rows(n, k, by, op, first, end, v, prev, &mut out[a..e]);
+    let a = own.first * own.width;
+    let e = own.end * own.width;
+    matvec_combine_rows(own, by, op, v, prev, &mut out[a..e]);
 }

@@ -6,6 +6,9 @@ ghost use Rattle.definition.specs.Arith.{ieee64};
 ghost use Rattle.definition.specs.Memory.{fill_range, place};
 ghost use Rattle.rows.specs.Pass.{combined_at, multipliers, operator_of, Pass};
 
+use numbers::{Multipliers, Rows};
+use rows::Operator;
+
 #[unsafe(no_mangle)]
 pub extern "C" fn rows_matvec_combine(
     n: usize,
@@ -30,20 +33,22 @@ pub extern "C" fn rows_matvec_combine(
         (multipliers ieee64 mul_mv mul_v mul_prev) v.now prev.now)
         out.old }
 {
-    rows::matvec_combine(
+    let own = Rows {
         n,
-        k,
-        mul_mv,
-        mul_v,
-        mul_prev,
+        width: k,
         first,
         end,
+    };
+    let by = Multipliers {
+        of_mv: mul_mv,
+        of_v: mul_v,
+        of_prev: mul_prev,
+    };
+    let op = Operator {
         starts,
-        edge_columns,
-        edge_weights,
+        columns: edge_columns,
+        weights: edge_weights,
         inverse,
-        v,
-        prev,
-        out,
-    );
+    };
+    rows::matvec_combine(own, by, op, v, prev, out);
 }

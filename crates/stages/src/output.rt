@@ -8,6 +8,7 @@ ghost use Rattle.machine.specs.Ready.{AskedReady};
 ghost use Rattle.machine.specs.Work.{sums_work, squares_work, centre_work, scale_work};
 ghost use Rattle.state.specs.Said.{asked_in, lent_in};
 
+use numbers::Rows;
 use state::Asked;
 
 // The chunk's partial of the columns' sums, at its own place among the partials.
@@ -23,15 +24,13 @@ pub fn sums_stage(asked: Asked, h: usize, output: &[f64], partials: &mut [f64])
     let n = asked.rows;
     let d = asked.dims;
     let k = d + 8;
-    sums::sums_partial(
+    let own = Rows {
         n,
-        d,
-        input::first_row(n, h),
-        input::end_row(n, h),
-        output,
-        h * (k * k),
-        partials,
-    );
+        width: d,
+        first: input::first_row(n, h),
+        end: input::end_row(n, h),
+    };
+    sums::sums_partial(own, output, h * (k * k), partials);
 }
 
 // The same of the columns' squares.
@@ -47,15 +46,13 @@ pub fn squares_stage(asked: Asked, h: usize, output: &[f64], partials: &mut [f64
     let n = asked.rows;
     let d = asked.dims;
     let k = d + 8;
-    sums::squares_partial(
+    let own = Rows {
         n,
-        d,
-        input::first_row(n, h),
-        input::end_row(n, h),
-        output,
-        h * (k * k),
-        partials,
-    );
+        width: d,
+        first: input::first_row(n, h),
+        end: input::end_row(n, h),
+    };
+    sums::squares_partial(own, output, h * (k * k), partials);
 }
 
 // The means of the columns subtracted: `totals` has the columns' sums.
@@ -69,14 +66,13 @@ pub fn centre_stage(asked: Asked, totals: &[f64; 225], h: usize, output: &mut [f
 {
     let n = asked.rows;
     let d = asked.dims;
-    columns::output::centre_chunk(
+    let own = Rows {
         n,
-        d,
-        totals,
-        input::first_row(n, h),
-        input::end_row(n, h),
-        output,
-    );
+        width: d,
+        first: input::first_row(n, h),
+        end: input::end_row(n, h),
+    };
+    columns::output::centre_chunk(own, totals, output);
 }
 
 // The columns multiplied by their scales, which stand in `totals`.
@@ -90,12 +86,11 @@ pub fn scale_stage(asked: Asked, totals: &[f64; 225], h: usize, output: &mut [f6
 {
     let n = asked.rows;
     let d = asked.dims;
-    columns::output::scale_chunk(
+    let own = Rows {
         n,
-        d,
-        totals,
-        input::first_row(n, h),
-        input::end_row(n, h),
-        output,
-    );
+        width: d,
+        first: input::first_row(n, h),
+        end: input::end_row(n, h),
+    };
+    columns::output::scale_chunk(own, totals, output);
 }

@@ -8,12 +8,19 @@ ghost use Rattle.definition.specs.Requirements.{Span};
 ghost use Rattle.sums.specs.Accumulators.{summed, product_term};
 
 use crate::row;
+use numbers::Rows;
 
 // The squares of the numbers at place c of each row.
-pub fn square_sum(stride: usize, c: usize, first: usize, end: usize, list: &[f64]) -> f64
-    requires { (c < stride) × (first ≤ end) × (end * stride ≤ length list.now) }
-    ensures { result ≡ sum_up ieee64 (λ i. square ieee64 (vector_of ieee64.none list.now (i * stride + c))) first end }
+pub fn square_sum(own: Rows, c: usize, list: &[f64]) -> f64
+    requires { (c < own.width) × (own.first ≤ own.end) × (own.end * own.width ≤ length list.now) }
+    ensures { result ≡ sum_up ieee64 (λ i. square ieee64 (vector_of ieee64.none list.now (i * own.width + c))) own.first own.end }
 {
+    let Rows {
+        width: stride,
+        first,
+        end,
+        ..
+    } = own;
     let mut acc = 0.0;
     for i in first..end {
         let x = list[i * stride + c];
@@ -23,19 +30,18 @@ pub fn square_sum(stride: usize, c: usize, first: usize, end: usize, list: &[f64
 }
 
 // The terms of the first `width` numbers of each row.
-pub fn terms<F: Fn(f64) -> f64>(
-    stride: usize,
-    width: usize,
-    first: usize,
-    end: usize,
-    list: &[f64],
-    term: F,
-) -> [f64; 225]
-    requires sizes { (width ≤ stride) × (width ≤ 225) × (first ≤ end) × (end * stride ≤ length list.now) }
+pub fn terms<F: Fn(f64) -> f64>(own: Rows, width: usize, list: &[f64], term: F) -> [f64; 225]
+    requires sizes { (width ≤ own.width) × (width ≤ 225) × (own.first ≤ own.end) × (own.end * own.width ≤ length list.now) }
     requires callable { F.IsAlwaysCallable term }
     ensures { (f : Float → Float) → ((x y : Float) → F.post term x y → y ≡ f x)
-        → result ≡ summed ieee64 width (λ q i. f (vector_of ieee64.none list.now (i * stride + q))) first end }
+        → result ≡ summed ieee64 width (λ q i. f (vector_of ieee64.none list.now (i * own.width + q))) own.first own.end }
 {
+    let Rows {
+        width: stride,
+        first,
+        end,
+        ..
+    } = own;
     let mut acc = [0.0; 225];
     for i in first..end {
         row::add_terms(&mut acc, 0, width, list, i * stride, &term);
@@ -45,20 +51,18 @@ pub fn terms<F: Fn(f64) -> f64>(
 
 // The dots of column c. This loop and the next stay beside `terms`: a closure that adds a row would
 // lend it the sums and ask for the bounds of its row, which is more than the three lines here.
-pub fn dots(
-    n: usize,
-    k: usize,
-    c: usize,
-    first: usize,
-    end: usize,
-    v0: &[f64],
-    v: &[f64],
-) -> [f64; 225]
-    requires span { Span first end n }
-    requires k_bound { (k ≤ 15) × (c < k) × (n ≤ length v0.now) × (n * k ≤ length v.now) }
+pub fn dots(own: Rows, c: usize, v0: &[f64], v: &[f64]) -> [f64; 225]
+    requires span { Span own.first own.end own.n }
+    requires k_bound { (own.width ≤ 15) × (c < own.width) × (own.n ≤ length v0.now) × (own.n * own.width ≤ length v.now) }
     ensures { result ≡ summed ieee64 (c + 1)
-        (dot_term ieee64 (vector_of ieee64.none v0.now) (block_of ieee64.none n k v.now) c) first end }
+        (dot_term ieee64 (vector_of ieee64.none v0.now) (block_of ieee64.none own.n own.width v.now) c) own.first own.end }
 {
+    let Rows {
+        width: k,
+        first,
+        end,
+        ..
+    } = own;
     let mut acc = [0.0; 225];
     for i in first..end {
         row::add_dots(&mut acc, c, v0[i], v, i * k);
@@ -67,11 +71,18 @@ pub fn dots(
 }
 
 // The products of the columns of v and w.
-pub fn products(n: usize, k: usize, first: usize, end: usize, v: &[f64], w: &[f64]) -> [f64; 225]
-    requires span { Span first end n }
-    requires k_bound { (k ≤ 15) × (n * k ≤ length v.now) × (n * k ≤ length w.now) }
-    ensures { result ≡ summed ieee64 (k * k) (product_term ieee64 k (block_of ieee64.none n k v.now) (block_of ieee64.none n k w.now)) first end }
+pub fn products(own: Rows, v: &[f64], w: &[f64]) -> [f64; 225]
+    requires span { Span own.first own.end own.n }
+    requires k_bound { (own.width ≤ 15) × (own.n * own.width ≤ length v.now) × (own.n * own.width ≤ length w.now) }
+    ensures { let n = own.n in let k = own.width in
+        result ≡ summed ieee64 (k * k) (product_term ieee64 k (block_of ieee64.none n k v.now) (block_of ieee64.none n k w.now)) own.first own.end }
 {
+    let Rows {
+        width: k,
+        first,
+        end,
+        ..
+    } = own;
     let mut acc = [0.0; 225];
     for i in first..end {
         row::add_products(&mut acc, k, v, w, i * k);

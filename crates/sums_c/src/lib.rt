@@ -8,6 +8,8 @@ ghost use Rattle.definition.specs.Memory.{vector_of, block_of};
 ghost use Rattle.definition.specs.Requirements.{Span, Width};
 ghost use Rattle.sums.specs.Accumulators.{with_partial, product_term};
 
+use numbers::Rows;
+
 #[unsafe(no_mangle)]
 pub extern "C" fn sums_dots_partial(
     n: usize,
@@ -26,7 +28,13 @@ pub extern "C" fn sums_dots_partial(
     ensures { partials.new ≡ with_partial ieee64 base (c + 1)
         (dot_term ieee64 (vector_of ieee64.none v0.now) (block_of ieee64.none n k v.now) c) first end partials.old }
 {
-    sums::dots_partial(n, k, c, first, end, v0, v, base, partials);
+    let own = Rows {
+        n,
+        width: k,
+        first,
+        end,
+    };
+    sums::dots_partial(own, c, v0, v, base, partials);
 }
 
 #[unsafe(no_mangle)]
@@ -46,5 +54,11 @@ pub extern "C" fn sums_products_partial(
     ensures { partials.new ≡ with_partial ieee64 base (k * k)
         (product_term ieee64 k (block_of ieee64.none n k v.now) (block_of ieee64.none n k w.now)) first end partials.old }
 {
-    sums::products_partial(n, k, first, end, v, w, base, partials);
+    let own = Rows {
+        n,
+        width: k,
+        first,
+        end,
+    };
+    sums::products_partial(own, v, w, base, partials);
 }

@@ -19,7 +19,7 @@ returns c = turn_end _ _ _ _ c.loop-r.invariant c.loop-r-test.false
 pub loop-r-preserved : goal.loop-r-preserved
 loop-r-preserved c =
     let l = c.loop-r in
-    let k = c.args.k in
+    let k = c.args.column.width in
     turn_column ieee64 _ _ _ _ _ c.requires.part.column l.invariant c.loop-r-test.true
-    (ap (λ x. ieee64.sub x c.row_delta-taken.result) (turn_ahead _ _ _ _ nan c.args.c l.invariant)
-    ∙ ap (ieee64.sub _) (c.row_delta-taken.ensures ∙ delta_cong ieee64 _ _ _ _ _ (λ p h. cut_number (l.r * k) c.args.c _ nan p h ∙ turn_ahead _ _ _ _ nan p l.invariant)))
+    (ap (λ x. ieee64.sub x c.row_delta-taken.result) (turn_ahead _ _ _ _ nan c.args.column.c l.invariant)
+    ∙ ap (ieee64.sub _) (c.row_delta-taken.ensures ∙ delta_cong ieee64 _ _ _ _ _ (λ p h. cut_number (l.r * k) c.args.column.c _ nan p h ∙ turn_ahead _ _ _ _ nan p l.invariant)))

@@ -10,7 +10,7 @@ pub loop-r-preserved : goal.loop-r-preserved
 loop-r-preserved g c =
     λ f h. let t = c.loop-r.invariant f h in
     turn_column ieee64 _ _ _ _ _ c.requires.part.column t c.loop-r-test.true
-    (h c.loop-r.r c.number.result c.loop-r-test.true (rw (turn_ahead _ _ _ _ nan c.args.c t) at c.number.ensures))
+    (h c.loop-r.r c.number.result c.loop-r-test.true (rw (turn_ahead _ _ _ _ nan c.args.column.c t) at c.number.ensures))
 
 pub returns : goal.returns
 returns g c = λ f h. turn_end _ _ _ _ (c.loop-r.invariant f h) c.loop-r-test.false

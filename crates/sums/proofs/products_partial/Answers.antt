@@ -7,5 +7,5 @@ use Rattle.sums.proofs.products_partial.Goals as goal
 
 pub returns : goal.returns
 returns c =
-    summed-put ieee64 _ _ _ _ _ _ (square-most c.args.k (omega arith)) c.products-sums.ensures
+    summed-put ieee64 _ _ _ _ _ _ (square-most c.args.own.width (omega arith)) c.products-sums.ensures
     c.put_partial.ensures

@@ -12,9 +12,9 @@ dots_partial-requires c =
     let b = c.args.blocks in
     let h = b.chunk in
     let a = asked_in h.asked in
-    rw (c.width.ensures, c.partial.ensures)
+    rw (c.rows.ensures.n, c.rows.ensures.width, c.partial.ensures)
     (record {
-      span = span_of _ _ c.first.ensures c.end.ensures;
+      span = span_of _ _ c.rows.ensures.first c.rows.ensures.end;
       width = asked-width h.asked_ready;
       c_lt_k = (
         h.progress_ready.column,
@@ -30,4 +30,4 @@ returns c =
     λ inverse columns weights output.
     dots-lent (asked_in b.chunk.asked) b.chunk.number
     (lent_in inverse c.args.v0.now columns weights b.block0.now b.block1.now b.block2.now c.args.partials.now output)
-    c.first.ensures c.end.ensures (progress_in b.chunk.progress) c.pick.ensures (rw (c.width.ensures, c.partial.ensures) at c.dots_partial.ensures)
+    c.rows.ensures.first c.rows.ensures.end (progress_in b.chunk.progress) c.pick.ensures (rw (c.rows.ensures.n, c.rows.ensures.width, c.partial.ensures) at c.dots_partial.ensures)

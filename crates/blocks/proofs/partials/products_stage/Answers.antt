@@ -12,9 +12,9 @@ products_partial-requires c =
     let b = c.args.blocks in
     let h = b.chunk in
     let a = asked_in h.asked in
-    rw (c.width.ensures, c.partial.ensures)
+    rw (c.rows.ensures.n, c.rows.ensures.width, c.partial.ensures)
     (record {
-      span = span_of _ _ c.first.ensures c.end.ensures;
+      span = span_of _ _ c.rows.ensures.first c.rows.ensures.end;
       width = asked-width h.asked_ready;
       k_in_bounds = (
         chosen-enough _ b.ready c.pick-v.ensures,
@@ -29,5 +29,5 @@ returns c =
     λ inverse v0 columns weights output.
     products-lent (asked_in b.chunk.asked) b.chunk.number
     (lent_in inverse v0 columns weights b.block0.now b.block1.now b.block2.now c.args.partials.now output)
-    c.first.ensures c.end.ensures (progress_in b.chunk.progress) c.pick-v.ensures
-    (c.pick-w.ensures ∙ ap (λ j. chosen j b.block0.now b.block1.now b.block2.now) c.free_block.ensures) (rw (c.width.ensures, c.partial.ensures) at c.products_partial.ensures)
+    c.rows.ensures.first c.rows.ensures.end (progress_in b.chunk.progress) c.pick-v.ensures
+    (c.pick-w.ensures ∙ ap (λ j. chosen j b.block0.now b.block1.now b.block2.now) c.free_block.ensures) (rw (c.rows.ensures.n, c.rows.ensures.width, c.partial.ensures) at c.products_partial.ensures)

@@ -9,9 +9,9 @@ pub matvec_combine-requires : goal.matvec_combine-requires
 matvec_combine-requires c =
     let h = c.args.edges.chunk in
     let b = rw c.requires.chunk_same at c.args.blocks.ready in
-    rw c.width.ensures
+    rw (c.rows.ensures.n, c.rows.ensures.width)
     (record {
-      pass = pass_ready (asked_in h.asked) h.number h.asked_ready c.args.edges.ready c.first.ensures c.end.ensures
+      pass = pass_ready (asked_in h.asked) h.number h.asked_ready c.args.edges.ready c.rows.ensures.first c.rows.ensures.end
           (chosen-enough _ b c.pick.ensures) (chosen-enough _ b c.pick-2.ensures);
       k_in_bounds = c.requires.asked_in_bounds;
     })
@@ -19,4 +19,4 @@ matvec_combine-requires c =
 pub returns : goal.returns
 returns c =
     rw (← c.pick.ensures, ← c.pick-2.ensures)
-    (rows_of _ _ c.first.ensures c.end.ensures _ _ _ (omega arith) (rw c.width.ensures at c.matvec_combine.ensures))
+    (rows_of _ _ c.rows.ensures.first c.rows.ensures.end _ _ _ (omega arith) (rw (c.rows.ensures.n, c.rows.ensures.width) at c.matvec_combine.ensures))

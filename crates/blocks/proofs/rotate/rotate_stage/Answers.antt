@@ -9,10 +9,10 @@ pub rotate_chunk-requires : goal.rotate_chunk-requires
 rotate_chunk-requires c =
     let b = c.args.blocks in
     let r = b.chunk.asked_ready in
-    rw c.width.ensures
+    rw (c.rows.ensures.n, c.width.ensures)
     (record {
       output = record {
-        span = span_of _ _ c.first.ensures c.end.ensures;
+        span = span_of _ _ c.rows.ensures.first c.rows.ensures.end;
         some = r.dims-least;
         few = r.dims-most;
         enough = c.requires.rows_in_bounds.1;
@@ -32,4 +32,4 @@ returns c =
     λ v0 columns weights partials.
     rotate_lent (asked_in b.chunk.asked) (progress_in b.chunk.progress) b.chunk.number
     (lent_in c.args.inverse.now v0 columns weights b.block0.now b.block1.now b.block2.now partials c.args.output.now)
-    c.args.vectors.now c.args.order.now c.first.ensures c.end.ensures b.chunk.asked_ready.dims-least c.pick.ensures (rw c.width.ensures at c.rotate_chunk.ensures)
+    c.args.vectors.now c.args.order.now c.rows.ensures.first c.rows.ensures.end b.chunk.asked_ready.dims-least c.pick.ensures (rw (c.rows.ensures.n, c.width.ensures) at c.rotate_chunk.ensures)

@@ -16,21 +16,21 @@ use Rattle.rows.proofs.pass.combine_rows.Goals.{In-loop-r}
 row : (g : Over) (c : In-loop-r g) →
     let r = c.loop-r.r in
     let k = g.row.K in
-    (k ≤ 15) × (r * k + k < 2 ^ 64) × (r * k + k ≤ length c.loop-r.out) × ((c.args.first + r) * k + k ≤ length c.args.v.now)
-    × ((c.args.first + r) * k + k ≤ length c.args.prev.now)
+    (k ≤ 15) × (r * k + k < 2 ^ 64) × (r * k + k ≤ length c.loop-r.out) × ((c.args.own.first + r) * k + k ≤ length c.args.v.now)
+    × ((c.args.own.first + r) * k + k ≤ length c.args.prev.now)
 row g c =
     let r = c.loop-r.r in
     let k = g.row.K in
     let h = c.requires.pass in
-    let e = row_end (c.args.first + r) k c.args.n (omega (arith, h.span)) in
-    let o : r * k + k ≤ length c.args.out.now = omega (arith, row_end r k (c.args.end - c.args.first) c.loop-r-test.true, c.requires.out_len) in
+    let e = row_end (c.args.own.first + r) k c.args.own.n (omega (arith, h.span)) in
+    let o : r * k + k ≤ length c.args.out.now = omega (arith, row_end r k (c.args.own.end - c.args.own.first) c.loop-r-test.true, c.requires.out_len) in
     (h.width.most, omega (arith, o, c.well_formed), omega (arith, o, c.loop-r.invariant.1), omega (arith, e, h.v_enough), omega (arith, e, h.prev_enough))
 
 pub loop-r-init : goal.loop-r-init
 loop-r-init g c = (omega arith, refl, sym (fill_empty _ _ _ _ (omega (arith, zero-mul g.row.K))))
 
 pub gather-acc-requires : goal.gather-acc-requires
-gather-acc-requires g c = row-entries c.requires.pass (c.args.first + c.loop-r.r) (omega arith) (omega arith)
+gather-acc-requires g c = row-entries c.requires.pass (c.args.own.first + c.loop-r.r) (omega arith) (omega arith)
 
 pub overflow_mul-i : goal.overflow_mul-i
 overflow_mul-i g c = omega (arith, row g (goal.at.overflow_mul-i g c).In-loop-r)
@@ -56,9 +56,9 @@ loop-r-preserved g c =
       put.auto.out ∙ l.invariant.1,
       fill_to _ _ _
           (fill_next 0 (l.r * k) (l.r * k + k) _ _ _ (omega arith) (omega arith) l.invariant.2 put.ensures
-          (row_combined ieee64 a.n k a.op.starts.now a.op.columns.now a.op.weights.now a.op.inverse.now
+          (row_combined ieee64 a.own.n k a.op.starts.now a.op.columns.now a.op.weights.now a.op.inverse.now
           (multipliers_of a.by) a.v.now a.prev.now
-          a.first l.r c.requires.pass.width.most gathered.ensures mixed.ensures))
+          a.own.first l.r c.requires.pass.width.most gathered.ensures mixed.ensures))
           (sym (row_next l.r k)),
     )
 
@@ -68,5 +68,5 @@ shape_of-out g c = c.loop-r.invariant.1
 pub returns : goal.returns
 returns g c =
     let l = c.loop-r in
-    let e : l.r ≡ c.args.end - c.args.first = omega arith in
+    let e : l.r ≡ c.args.own.end - c.args.own.first = omega arith in
     fill_to _ _ _ l.invariant.2 (ap (λ (x : ℕ). x * g.row.K) e ∙ sym c.requires.out_len)

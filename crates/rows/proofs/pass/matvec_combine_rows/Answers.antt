@@ -5,7 +5,7 @@ use Rattle.rows.proofs.pass.matvec_combine_rows.Goals as goal
 use Rattle.rows.proofs.pass.matvec_combine_rows.Goals.{In_default}
 
 -- the last arm's width
-last : (c : In_default) → c.args.k ≡ 15
+last : (c : In_default) → c.args.own.width ≡ 15
 last c = omega (arith, c.requires.pass.width)
 
 pub returns-in-9 : goal.returns-in-9

@@ -11,4 +11,4 @@ use Rattle.rows.proofs.start.start_block_chunk.Goals as goal
 use Rattle.rows.proofs.start.start_block_chunk.Goals.{Start}
 
 pub returns : goal.returns
-returns c = rows_back _ _ c.args.first c.args.end _ c.requires.span c.requires.k_in_bounds _ _ (λ p h. start-at ieee64 _ _ _ p) c.start_block_rows.ensures
+returns c = rows_back _ _ c.args.own.first c.args.own.end _ c.requires.span c.requires.k_in_bounds _ _ (λ p h. start-at ieee64 _ _ _ p) c.start_block_rows.ensures

@@ -10,4 +10,4 @@ use Rattle.sums.proofs.rows.products.Given as goal
 abbrev pub invariant-loop-i : goal.invariant-loop-i
 invariant-loop-i l =
     (l.first ≤ l.i) × (l.i ≤ l.end)
-    × (l.acc ≡ summed ieee64 (l.k * l.k) (product_term ieee64 l.k (block_of nan l.n l.k l.v) (block_of nan l.n l.k l.w)) l.first l.i)
+    × (l.acc ≡ summed ieee64 (l.k * l.k) (product_term ieee64 l.k (block_of nan l.fn.own.n l.k l.v) (block_of nan l.fn.own.n l.k l.w)) l.first l.i)

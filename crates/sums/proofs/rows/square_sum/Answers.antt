@@ -14,5 +14,5 @@ loop-i-preserved c = (omega arith, omega arith, rw c.loop-i.invariant.2 (sym (su
 
 pub returns : goal.returns
 returns c =
-    let e : c.loop-i.i ≡ c.args.end = omega arith in
+    let e : c.loop-i.i ≡ c.args.own.end = omega arith in
     c.loop-i.invariant.2 ∙ ap (sum_up ieee64 _ _) e
