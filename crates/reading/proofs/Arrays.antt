@@ -61,6 +61,11 @@ not_taken (found vs n) out answer after s e =
     let z : ◌≡◌ {A = ℕ} 0 1 = cc in absurd (omega arith)
 not_taken none out answer after s e = refl
 
+-- what is no `Some` is `None`
+pub not_some : (answer : Option Counted) → ((line : Counted) → answer ≡ Some line → ⊥) → answer ≡ None
+not_some (Some line) h = absurd (h line refl)
+not_some None h = refl
+
 -- ---- a copy, number by number
 pub copy_more : (source copy : List ℕ) (i : ℕ) → i < length source → i < length copy → take i copy ≡ take i source
     → take (i + 1) (set copy i (get_or source i 0)) ≡ take (i + 1) source

@@ -8,12 +8,10 @@ use borrow.Author.Tests.{eq-eqb, ne_eqb}
 use lib.Dec.{eqb}
 use lib.Ieee.{Float, of_bits, binary64}
 use lib.ListN.{length, get_or}
-use Rattle.std.specs.Prelude.{Result}
-use Rattle.std.specs.Result.{MatchResult}
 use Rattle.reading.specs.Grammar.{RunNumbers, starts_most, entries_most, largest32, starts_line, columns_line, values_line, line_at}
 use Rattle.reading.specs.ReadLine.{found, none, line_from}
-use Rattle.reading.specs.ReadRun.{Read, run, fault, read_lists, padded, floats_of, record_of}
-use Rattle.reading.specs.Parts.{read_entries, outcome_of, Inside}
+use Rattle.reading.specs.ReadRun.{run, fault, read_lists, padded, floats_of, record_of}
+use Rattle.reading.specs.Parts.{read_entries, Inside}
 use Rattle.reading.specs.declared.RunFile.{RunFile}
 use Rattle.reading.proofs.Lines.{line-sound}
 use Rattle.reading.proofs.Rest.{rest-lists, rest-found, rest-none, rest_end, line-inside, fair}
@@ -94,9 +92,3 @@ columns-below bytes at count next columns t i =
 pub inside-next : (i : ℕ) → i < 7 → (bytes : List ℕ) (at m count next : ℕ) (after : List ℕ) → Inside bytes at
     → Taken (line_from (line_at i) bytes at) m count next after → Inside bytes next
 inside-next i h bytes at m count next after s t = record { small = s.small; inside = line-inside i h bytes at t.numbers next t.is }
-
--- ---- what is read, as the code hands it on
-pub outcome_taken : (r : Read) (outcome : Result RunFile ℕ) (file : RunFile) → outcome ≡ outcome_of r
-    → MatchResult outcome (λ x. file ≡ x) (λ line. file ≡ record_of (fault line)) → file ≡ record_of r
-outcome_taken (run f) outcome file e h = subst (λ (o : Result RunFile ℕ). MatchResult o (λ x. file ≡ x) (λ line. file ≡ record_of (fault line))) e h
-outcome_taken (fault k) outcome file e h = subst (λ (o : Result RunFile ℕ). MatchResult o (λ x. file ≡ x) (λ line. file ≡ record_of (fault line))) e h

@@ -3,12 +3,11 @@ use Rattle.std.specs.Prelude.{Bool, true, false, cond, Option, Some, None, Resul
 use Rattle.digits.specs.declared.Number.{Number}
 use Rattle.reading.specs.Grammar.{Line, largest64, bytes_most, columns_line, values_line}
 use Rattle.reading.specs.ReadLine.{Found, found, none, line_from}
-use Rattle.reading.specs.ReadRun.{Read, run, fault, on_line, one, read_lines, read_lists, record_of}
+use Rattle.reading.specs.ReadRun.{Read, run, fault, on_line, one, read_lines, read_lists}
 use Rattle.reading.specs.declared.Kind.{Kind}
 use Rattle.reading.specs.declared.Kind.TheVariants.{UpTo, Bits}
 use Rattle.reading.specs.declared.Counted.{Counted}
 use Rattle.reading.specs.declared.Head.{Head}
-use Rattle.reading.specs.declared.RunFile.{RunFile}
 
 -- whether the numbers of a kind are hex, and the largest
 abbrev pub kind_in_hex : Kind → Bool
@@ -60,11 +59,6 @@ read_entries bytes d rounds degree seed_std starts at =
     (λ values at7. cond (eqb at7 (length bytes))
     (run (record { d = d; rounds = rounds; degree = degree; seed_std = seed_std; starts = starts; columns = columns; values = values }))
     (fault 8)))
-
--- the record of a run file, or the line at fault
-abbrev pub outcome_of : Read → Result RunFile ℕ
-outcome_of (run f) = Ok (record_of (run f))
-outcome_of (fault line) = Err line
 
 -- few enough bytes, and a place among them
 pub record Inside (bytes : List ℕ) (at : ℕ) : Type 0 where

@@ -6,8 +6,8 @@ ghost use Rattle.std.specs.Float.Ieee.{of_bits};
 ghost use Rattle.std.specs.Float.{binary64};
 ghost use Rattle.reading.specs.Grammar.{bytes_most, starts_most, largest32, largest64};
 ghost use Rattle.reading.specs.ReadLine.{number_at, numbers_from, stands_at, line_from};
-ghost use Rattle.reading.specs.ReadRun.{read_run, read_lines, read_lists, record_of, floats_of, padded, fault};
-ghost use Rattle.reading.specs.Parts.{line_of, Reads, one_of, ReadsHead, read_entries, outcome_of, Inside};
+ghost use Rattle.reading.specs.ReadRun.{read_run, read_lists, record_of, floats_of, padded, fault};
+ghost use Rattle.reading.specs.Parts.{line_of, Reads, one_of, ReadsHead, read_entries, Inside};
 
 use digits::Number;
 
@@ -235,25 +235,25 @@ fn faulty(line: u64) -> RunFile
 }
 
 // Lines 6 and 7, and nothing behind them. The starts are read: `count` of them, and zeros.
-fn read_entries(
-    bytes: &[u8],
-    head: Head,
-    count: usize,
-    starts: [u64; 65],
-    from: usize,
-) -> Result<RunFile, u64>
+// This and `read_lists` answer the file itself and no `Result` of it, which would be copied at each level: the call would need 109,080 bytes of
+// stack and not 51,144, measured, and the header promises 56,000.
+fn read_entries(bytes: &[u8], head: Head, count: usize, starts: [u64; 65], from: usize) -> RunFile
     requires { Inside bytes.now from }
-    ensures { (vs : List ℕ) → count ≡ length vs → starts ≡ padded starts_most vs → result ≡ outcome_of (read_entries bytes.now head.d head.rounds head.degree head.seed vs from) }
+    ensures { (vs : List ℕ) → count ≡ length vs → starts ≡ padded starts_most vs → result ≡ record_of (read_entries bytes.now head.d head.rounds head.degree head.seed vs from) }
 {
     let mut columns = [0; 1024];
     let kind = Kind::UpTo(LARGEST32);
-    let line6 = read_line(b"columns=", kind, 0, bytes, from, &mut columns).ok_or(6u64)?;
+    let Some(line6) = read_line(b"columns=", kind, 0, bytes, from, &mut columns) else {
+        return faulty(6);
+    };
     let mut values = [0; 1024];
-    let line7 = read_line(b"values=", Kind::Bits, 0, bytes, line6.next, &mut values).ok_or(7u64)?;
+    let Some(line7) = read_line(b"values=", Kind::Bits, 0, bytes, line6.next, &mut values) else {
+        return faulty(7);
+    };
     if line7.next != bytes.len() {
-        return Err(8);
+        return faulty(8);
     }
-    Ok(RunFile {
+    RunFile {
         is_right: true,
         line: 0,
         d: head.d,
@@ -266,27 +266,20 @@ fn read_entries(
         starts,
         columns: columns_of(columns),
         values: values_of(values),
-    })
+    }
 }
 
 // Lines 5 to 7.
-fn read_lists(bytes: &[u8], head: Head) -> Result<RunFile, u64>
+fn read_lists(bytes: &[u8], head: Head) -> RunFile
     requires { Inside bytes.now head.next }
-    ensures { result ≡ outcome_of (read_lists bytes.now head.d head.rounds head.degree head.seed head.next) }
+    ensures { result ≡ record_of (read_lists bytes.now head.d head.rounds head.degree head.seed head.next) }
 {
     let mut starts = [0; 65];
     let kind = Kind::UpTo(LARGEST64);
-    let line5 = read_line(b"starts=", kind, 0, bytes, head.next, &mut starts).ok_or(5u64)?;
+    let Some(line5) = read_line(b"starts=", kind, 0, bytes, head.next, &mut starts) else {
+        return faulty(5);
+    };
     read_entries(bytes, head, line5.count, starts, line5.next)
-}
-
-// All lines.
-fn read_lines(bytes: &[u8]) -> Result<RunFile, u64>
-    requires { length bytes.now ≤ bytes_most }
-    ensures { result ≡ outcome_of (read_lines bytes.now) }
-{
-    let head = read_head(bytes)?;
-    read_lists(bytes, head)
 }
 
 pub fn read_run(bytes: &[u8]) -> RunFile
@@ -295,5 +288,8 @@ pub fn read_run(bytes: &[u8]) -> RunFile
     if BYTES_MOST < bytes.len() {
         return faulty(0);
     }
-    read_lines(bytes).unwrap_or_else(faulty)
+    match read_head(bytes) {
+        Ok(head) => read_lists(bytes, head),
+        Err(line) => faulty(line),
+    }
 }
