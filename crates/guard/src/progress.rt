@@ -10,15 +10,28 @@ ghost use Rattle.state.specs.Said.{asked_in, progress_in, state_in};
 ghost use Rattle.guard.specs.Counted.{Counted, Begun, stages_most};
 
 use crate::ranges::state_sound;
-use input::SpectralParams;
-use state::{Asked, Progress, State};
+use state::{Asked, Progress, Stage, State};
+
+// The numbers of the stages with which a group of them begins. Stages that follow one another have numbers that do, so that a group's are
+// counted by their numbers.
+const EMPTY: usize = Stage::Empty as usize;
+
+const DEGREES: usize = Stage::Degrees as usize;
+
+const FILTER_PASS: usize = Stage::FilterPass as usize;
+
+const NORM_BEFORE: usize = Stage::NormBefore as usize;
+
+const PLAIN_PASS: usize = Stage::PlainPass as usize;
+
+const ROTATE: usize = Stage::Rotate as usize;
 
 // The stages of a round in which no column is refreshed.
 fn round_stages(a: Asked) -> usize
     requires { AskedReady (asked_in a) }
     ensures { result ≡ round_stages (asked_in a) }
 {
-    a.degree + 2 + 7 * (a.dims + SpectralParams::OVERSAMPLING)
+    a.degree + 2 + 7 * a.width()
 }
 
 // The stages closed after the four first ones, so many rounds and i stages more. A column refreshed had its seven stages twice.
@@ -47,27 +60,27 @@ fn closed_stages(a: Asked, p: Progress, refreshed: usize) -> usize
     ensures upper_bound { result ≤ stages_most }
 {
     let stage = p.stage;
-    if stage < 5 {
-        return stage - 1;
+    if stage < FILTER_PASS {
+        return stage - DEGREES;
     }
-    if 15 <= stage {
-        return after_rounds(a, a.rounds, refreshed, stage - 15);
+    if ROTATE <= stage {
+        return after_rounds(a, a.rounds, refreshed, stage - ROTATE);
     }
-    if stage == 5 {
+    if stage == FILTER_PASS {
         return after_rounds(a, p.round, refreshed, p.pass);
     }
-    if stage < 13 {
-        let i = a.degree + 7 * p.column + (stage - 6);
+    if stage < PLAIN_PASS {
+        let i = a.degree + 7 * p.column + (stage - NORM_BEFORE);
         return after_rounds(a, p.round, refreshed, i);
     }
-    let i = a.degree + 7 * (a.dims + SpectralParams::OVERSAMPLING) + (stage - 13);
+    let i = a.degree + 7 * a.width() + (stage - PLAIN_PASS);
     after_rounds(a, p.round, refreshed, i)
 }
 
 fn has_run(state: State) -> bool
     ensures { result ≡ (state_sound ieee64 (state_in state) && not (eqb state.progress.stage 0)) }
 {
-    state_sound(state) && state.progress.stage != 0
+    state_sound(state) && state.progress.stage != EMPTY
 }
 
 pub fn calls_accepted(state: State) -> usize

@@ -7,9 +7,9 @@ ghost use Rattle.machine.specs.Ready.{AskedReady};
 ghost use Rattle.state.specs.Said.{asked_in, progress_in, counts_in, state_in};
 
 use input::{SpectralParams, within};
-use state::{Asked, Counts, Progress, State};
+use state::{Asked, Counts, Progress, Stage, State};
 
-const LAST_STAGE: usize = 20;
+const LAST_STAGE: usize = Stage::Ended as usize;
 
 pub fn asked_sound(a: Asked) -> bool
     ensures { result ≡ asked_sound (asked_in a) }
@@ -40,7 +40,7 @@ fn alpha_sound(a: f64) -> bool
 pub fn is_open(stage: usize) -> bool
     ensures { result ≡ (leb 1 stage && ltb stage last_stage) }
 {
-    (1..LAST_STAGE).contains(&stage)
+    !matches!(Stage::from(stage), Stage::Empty | Stage::Ended)
 }
 
 // The blocks at hand, and the filter's numbers.
@@ -55,7 +55,7 @@ fn progress_sound(a: Asked, p: Progress) -> bool
     requires { AskedReady (asked_in a) }
     ensures { result ≡ progress_sound ieee64 (asked_in a) (progress_in p) }
 {
-    let k = a.dims + SpectralParams::OVERSAMPLING;
+    let k = a.width();
     p.stage <= LAST_STAGE
         && (p.round < a.rounds
             && (p.pass < a.degree && (p.column < k && (p.attempt <= 1 && blocks_sound(p)))))
@@ -67,7 +67,7 @@ fn counts_sound(a: Asked, counts: Counts) -> bool
     ensures { result ≡ counts_sound (asked_in a) (counts_in counts) }
 {
     let passes = a.rounds * (a.degree + 1);
-    let columns = a.rounds * (a.dims + SpectralParams::OVERSAMPLING);
+    let columns = a.rounds * a.width();
     counts.passes <= passes
         && (counts.refreshed <= columns && (counts.zeroed <= columns && counts.isolated <= a.rows))
 }
@@ -77,7 +77,7 @@ fn order_sound(a: Asked, order: [usize; 15]) -> bool
     requires { AskedReady (asked_in a) }
     ensures { result ≡ order_sound (asked_in a) order }
 {
-    let k = a.dims + SpectralParams::OVERSAMPLING;
+    let k = a.width();
     for place in order {
         if k <= place {
             return false;

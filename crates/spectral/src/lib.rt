@@ -72,7 +72,7 @@ fn all_stages<'g, 'm>(
     for closed in 0..2_000_000usize {
         let progress = reached.progress;
         let stage = progress.stage;
-        if stage == 20 {
+        if stage == ENDED {
             return reached.counts;
         }
         all_chunks(reached, graph, memory, marks);

@@ -9,7 +9,7 @@ ghost use Rattle.printing.specs.Room.{Leaves};
 ghost use Rattle.files.specs.RunText.{test_sizes, test_file, test_run, test_write, run_text};
 ghost use Rattle.writing.specs.Putting.{item_text, joined_by, line_by, head_text, Puts, Room};
 
-use input::{SpectralParams, Verdict};
+use input::{Graph, SpectralParams, Verdict};
 use printing::{WrittenText, put_text, verdict};
 use reading::{ENTRIES_MOST, ROUNDS_MOST, STARTS_MOST};
 
@@ -150,7 +150,11 @@ fn test_file(
     if dims.number != 0 {
         return dims;
     }
-    let graph = Verdict::from(input::test_graph(starts, columns, values));
+    let graph = Verdict::from(input::test_graph(Graph {
+        starts,
+        columns,
+        values,
+    }));
     if graph.number != 0 {
         return graph;
     }

@@ -32,10 +32,11 @@ pub returns-else-p-k : goal.returns-else-p-k
 unfolding progress_sound
 returns-else-p-k c =
     let s = c.args in let a = s.a in let p = s.p in
-    passed refl (le-leb p.stage 20 (omega arith))
+    rw c.width-k.ensures
+    (passed refl (le-leb p.stage 20 (omega arith))
     (passed refl (lt-ltb p.round a.rounds (omega arith))
     (passed refl (lt-ltb p.pass a.degree (omega arith))
-    (failed refl _ (le-ltb p.column (a.dims + 8) (omega arith)))))
+    (failed refl _ (le-ltb p.column (a.dims + 8) (omega arith))))))
 
 pub returns-else-p-a-2 : goal.returns-else-p-a-2
 unfolding progress_sound
