@@ -95,6 +95,5 @@ pub fn lists_sound(
         && lent_enough ieee64 (asked_in a) (all_seen memory.entry ritz_record.now) marks.now) }
 {
     let lengths = memory.lengths(marks, ritz_record);
-    lists_enough(a, graph)
-        && input::test_lent(a.dims, a.rounds, a.rows, a.entries, lengths).is_ok()
+    lists_enough(a, graph) && input::test_lent(a.dims, a.rounds, a.rows, a.entries, lengths).is_ok()
 }
