@@ -6,10 +6,10 @@ ghost use Rattle.definition.specs.Numbers.{first_row};
 ghost use Rattle.definition.specs.Requirements.{Starts};
 ghost use Rattle.machine.specs.State.{chunk_count};
 ghost use Rattle.machine.specs.Ranges.{starts_sound, columns_sound, rows_sound, lists_enough, lent_enough};
-ghost use Rattle.machine.specs.Ready.{AskedReady};
 ghost use Rattle.state.specs.Said.{asked_in, lists_of, lent_seen, all_seen};
 ghost use Rattle.guard.specs.Rows.{ChunkLists};
 
+use crate::ranges::Sound;
 use input::Graph;
 use state::{Asked, MemoryView, Stage};
 
@@ -33,13 +33,12 @@ pub fn starts_sound(a: Asked, h: usize, starts: &[u64]) -> bool
 
 // The columns of chunk h's entries are below n. It looks at all of them, whatever it has found: a loop with one way out is compiled for
 // several columns at a time.
-pub fn columns_sound(a: Asked, h: usize, starts: &[u64], columns: &[u32]) -> bool
-    requires asked_ready { AskedReady (asked_in a) }
-    requires starts { Starts starts.now (first_row a.rows h) (first_row a.rows (h + 1)) a.entries }
-    requires entries_in_bounds { a.entries ≤ length columns.now }
-    ensures { result ≡ columns_sound (asked_in a) starts.now columns.now h }
+pub fn columns_sound(a: Sound, h: usize, starts: &[u64], columns: &[u32]) -> bool
+    requires starts { Starts starts.now (first_row a.asked.rows h) (first_row a.asked.rows (h + 1)) a.asked.entries }
+    requires entries_in_bounds { a.asked.entries ≤ length columns.now }
+    ensures { result ≡ columns_sound (asked_in a.asked) starts.now columns.now h }
 {
-    let n = a.rows;
+    let n = a.asked.rows;
     let first_row = input::first_row(n, h);
     let end_row = input::end_row(n, h);
     let end = starts[end_row] as usize;
@@ -55,20 +54,20 @@ pub fn columns_sound(a: Asked, h: usize, starts: &[u64], columns: &[u32]) -> boo
 // lent ones in the filter's passes and the plain pass.
 pub fn rows_sound(
     stage: usize,
-    a: Asked,
+    a: Sound,
     h: usize,
     graph: Graph<'_>,
     memory: MemoryView<'_>,
 ) -> bool
-    requires { ChunkLists (asked_in a) graph.starts.now graph.columns.now memory.edge_columns.now h }
-    ensures { result ≡ rows_sound ieee64 stage (asked_in a) (lists_of graph.entry) (lent_seen memory.entry) h }
+    requires { ChunkLists (asked_in a.asked) graph.starts.now graph.columns.now memory.edge_columns.now h }
+    ensures { result ≡ rows_sound ieee64 stage (asked_in a.asked) (lists_of graph.entry) (lent_seen memory.entry) h }
 {
     let starts = graph.starts;
     match Stage::from(stage) {
-        Stage::Degrees => starts_sound(a, h, starts),
-        Stage::Edges => starts_sound(a, h, starts) && columns_sound(a, h, starts, graph.columns),
+        Stage::Degrees => starts_sound(a.asked, h, starts),
+        Stage::Edges => starts_sound(a.asked, h, starts) && columns_sound(a, h, starts, graph.columns),
         Stage::FilterPass | Stage::PlainPass => {
-            starts_sound(a, h, starts) && columns_sound(a, h, starts, memory.edge_columns)
+            starts_sound(a.asked, h, starts) && columns_sound(a, h, starts, memory.edge_columns)
         }
         _ => true,
     }
@@ -84,16 +83,16 @@ fn lists_enough(a: Asked, graph: Graph<'_>) -> bool
 
 // And so is lent memory 0 to 10.
 pub fn lists_sound(
-    a: Asked,
+    a: Sound,
     graph: Graph<'_>,
     memory: MemoryView<'_>,
     marks: &[u8],
     ritz_record: &[f64],
 ) -> bool
-    requires { AskedReady (asked_in a) }
-    ensures { result ≡ (lists_enough ieee64 (asked_in a) (lists_of graph.entry)
-        && lent_enough ieee64 (asked_in a) (all_seen memory.entry ritz_record.now) marks.now) }
+    ensures { result ≡ (lists_enough ieee64 (asked_in a.asked) (lists_of graph.entry)
+        && lent_enough ieee64 (asked_in a.asked) (all_seen memory.entry ritz_record.now) marks.now) }
 {
+    let asked = a.asked;
     let lengths = memory.lengths(marks, ritz_record);
-    lists_enough(a, graph) && input::test_lent(a.dims, a.rounds, a.rows, a.entries, lengths).is_ok()
+    lists_enough(asked, graph) && input::test_lent(asked.dims, asked.rounds, asked.rows, asked.entries, lengths).is_ok()
 }

@@ -6,11 +6,11 @@ ghost use Rattle.machine.specs.Ranges.{test_chunk, test_close};
 ghost use Rattle.state.specs.Said.{asked_in, state_in, lists_of, lent_seen, all_seen};
 ghost use Rattle.guard.specs.Rows.{ChunkLists, begun_test, own_test};
 
-use crate::ranges::{fields_sound, is_open};
+use crate::ranges::{Sound, fields_sound, is_open};
 use crate::rows::{lists_sound, rows_sound};
 use columns::marks::{first_undone, marks_sound};
 use input::{Graph, Refusal};
-use state::{Asked, MemoryView, State};
+use state::{MemoryView, State};
 
 // What both calls test first: the state, that a run is open, and that the lists are long enough for it.
 fn test_begun(
@@ -28,7 +28,8 @@ fn test_begun(
     if !is_open(state.progress.stage) {
         return Err(Refusal::NoRun);
     }
-    if !lists_sound(state.asked, graph, memory, marks, ritz_record) {
+    let a = Sound { asked: state.asked };
+    if !lists_sound(a, graph, memory, marks, ritz_record) {
         return Err(Refusal::State);
     }
     Ok(())
@@ -38,15 +39,15 @@ fn test_begun(
 #[tactic(auto, using(crate::proofs::Verdicts::own_laws))]
 fn test_own(
     stage: usize,
-    a: Asked,
+    a: Sound,
     h: usize,
     graph: Graph<'_>,
     memory: MemoryView<'_>,
     marks: &[u8],
 ) -> Result<(), Refusal>
-    requires chunk_lists { ChunkLists (asked_in a) graph.starts.now graph.columns.now memory.edge_columns.now h }
+    requires chunk_lists { ChunkLists (asked_in a.asked) graph.starts.now graph.columns.now memory.edge_columns.now h }
     requires h_in_bounds { h < length marks.now }
-    ensures { verdict_in result ≡ own_test stage (asked_in a) (lists_of graph.entry) (lent_seen memory.entry) marks.now h }
+    ensures { verdict_in result ≡ own_test stage (asked_in a.asked) (lists_of graph.entry) (lent_seen memory.entry) marks.now h }
 {
     let mark = marks[h];
     if 1 < mark {
@@ -78,7 +79,8 @@ pub fn test_chunk(
     if input::chunk_count(asked.rows) <= number {
         return Err(Refusal::Chunk(number));
     }
-    test_own(progress.stage, asked, number, graph, memory, marks)
+    let a = Sound { asked };
+    test_own(progress.stage, a, number, graph, memory, marks)
 }
 
 // Whether the stage may be closed now.

@@ -11,7 +11,7 @@ use Rattle.guard.proofs.rows.lists_sound.Goals as goal
 pub returns-then-lists_enough : goal.returns-then-lists_enough
 unfolding lent_enough
 returns-then-lists_enough c =
-    let a = c.args.a in
+    let a = c.args.a.asked in
     passed c.lists_enough.ensures c.if-lists_enough.true
     (c.is_ok.ensures.value ∙ ok_passes _ ∙ ap passes c.test_lent.ensures
     ∙ ap (λ (l : List ℕ). passes (test_lent a.dims a.rounds a.rows a.entries (wholes_of l))) c.lengths-lengths.ensures)

@@ -21,13 +21,13 @@ passes c =
 pub columns_sound-requires-clause-starts : goal.columns_sound-requires-clause-starts
 columns_sound-requires-clause-starts c =
     let g = c.args in
-    starts_ready (asked_in g.a) g.graph.starts.now g.h c.requires.starts-enough (sym c.starts_sound-in-Edges.ensures ∙ c.if-starts_sound.true) c.requires.chunk
+    starts_ready (asked_in g.a.asked) g.graph.starts.now g.h c.requires.starts-enough (sym c.starts_sound-in-Edges.ensures ∙ c.if-starts_sound.true) c.requires.chunk
 
 pub columns_sound-requires-then-starts_sound-2-clause-starts :
     goal.columns_sound-requires-then-starts_sound-2-clause-starts
 columns_sound-requires-then-starts_sound-2-clause-starts c =
     let g = c.args in
-    starts_ready (asked_in g.a) g.graph.starts.now g.h c.requires.starts-enough (sym c.starts_sound-in-FilterPass.ensures ∙ c.if-starts_sound-2.true) c.requires.chunk
+    starts_ready (asked_in g.a.asked) g.graph.starts.now g.h c.requires.starts-enough (sym c.starts_sound-in-FilterPass.ensures ∙ c.if-starts_sound-2.true) c.requires.chunk
 
 pub returns-in-Degrees : goal.returns-in-Degrees
 returns-in-Degrees c = c.starts_sound.ensures ∙ tests_starts _ _ _ _ (its_number c.from.ensures at.Degrees (omega arith) c.in-Degrees.is)

@@ -22,8 +22,8 @@ pub returns-then-not-is_open : goal.returns-then-not-is_open
 unfolding is_open
 returns-then-not-is_open c = begun-none _ _ _ (sound (goal.at.returns-then-not-is_open c).Else-not-fields_sound) (sym c.is_open.ensures ∙ c.if-not-is_open.true)
 
-pub lists_sound-requires : goal.lists_sound-requires
-lists_sound-requires c = state-asked (state_in c.args.state.now) (sound (goal.at.lists_sound-requires c).Else-not-fields_sound)
+pub invariant_of-a : goal.invariant_of-a
+invariant_of-a c = record { ready = state-asked (state_in c.args.state.now) (sound (goal.at.invariant_of-a c).Else-not-fields_sound) }
 
 pub returns-then-not-lists_sound : goal.returns-then-not-lists_sound
 unfolding lists_sound

@@ -16,6 +16,9 @@ returns-then-chunk_count-number c =
     let t = begun-passed _ _ _ _ c.in_ok-test_begun.ensures in
     chunk_beyond _ _ _ _ _ t.0 t.1 t.2 (omega (arith, c.if-chunk_count-number.true, c.chunk_count.ensures))
 
+pub invariant_of-a : goal.invariant_of-a
+invariant_of-a c = record { ready = begun-asked _ _ _ _ c.in_ok-test_begun.ensures }
+
 pub test_own-requires : goal.test_own-requires
 test_own-requires c =
     let lists = begun-lists _ _ _ _ c.in_ok-test_begun.ensures in
