@@ -4,7 +4,6 @@ pub mod Scans
 pub mod Asked
 pub mod RowLaws
 pub mod Stages
-pub mod Lengths
 pub mod Verdicts
 pub mod Owed
 pub mod Determined

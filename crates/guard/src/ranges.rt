@@ -7,9 +7,16 @@ ghost use Rattle.machine.specs.Ready.{AskedReady};
 ghost use Rattle.state.specs.Said.{asked_in, progress_in, counts_in, state_in};
 
 use input::{SpectralParams, within};
-use state::{Asked, Counts, Progress, State};
+use state::{Asked, Counts, Progress, Stage, State};
 
-const LAST_STAGE: usize = 20;
+// What was asked, each number in its range: what the tests after `asked_sound` rest on, and the counts of calls.
+#[derive(Clone, Copy)]
+pub struct Sound {
+    pub asked: Asked,
+    ghost ready: { AskedReady (asked_in asked) },
+}
+
+const LAST_STAGE: usize = Stage::Ended as usize;
 
 pub fn asked_sound(a: Asked) -> bool
     ensures { result ≡ asked_sound (asked_in a) }
@@ -40,7 +47,7 @@ fn alpha_sound(a: f64) -> bool
 pub fn is_open(stage: usize) -> bool
     ensures { result ≡ (leb 1 stage && ltb stage last_stage) }
 {
-    (1..LAST_STAGE).contains(&stage)
+    !matches!(Stage::from(stage), Stage::Empty | Stage::Ended)
 }
 
 // The blocks at hand, and the filter's numbers.
@@ -51,33 +58,30 @@ fn blocks_sound(p: Progress) -> bool
 }
 
 // From here on nothing overflows, since what was asked is in its ranges.
-fn progress_sound(a: Asked, p: Progress) -> bool
-    requires { AskedReady (asked_in a) }
-    ensures { result ≡ progress_sound ieee64 (asked_in a) (progress_in p) }
+fn progress_sound(a: Sound, p: Progress) -> bool
+    ensures { result ≡ progress_sound ieee64 (asked_in a.asked) (progress_in p) }
 {
-    let k = a.dims + SpectralParams::OVERSAMPLING;
+    let k = a.asked.width();
     p.stage <= LAST_STAGE
-        && (p.round < a.rounds
-            && (p.pass < a.degree && (p.column < k && (p.attempt <= 1 && blocks_sound(p)))))
+        && (p.round < a.asked.rounds
+            && (p.pass < a.asked.degree && (p.column < k && (p.attempt <= 1 && blocks_sound(p)))))
 }
 
 // Counts no more than a whole run can reach.
-fn counts_sound(a: Asked, counts: Counts) -> bool
-    requires { AskedReady (asked_in a) }
-    ensures { result ≡ counts_sound (asked_in a) (counts_in counts) }
+fn counts_sound(a: Sound, counts: Counts) -> bool
+    ensures { result ≡ counts_sound (asked_in a.asked) (counts_in counts) }
 {
-    let passes = a.rounds * (a.degree + 1);
-    let columns = a.rounds * (a.dims + SpectralParams::OVERSAMPLING);
+    let passes = a.asked.rounds * (a.asked.degree + 1);
+    let columns = a.asked.rounds * a.asked.width();
     counts.passes <= passes
-        && (counts.refreshed <= columns && (counts.zeroed <= columns && counts.isolated <= a.rows))
+        && (counts.refreshed <= columns && (counts.zeroed <= columns && counts.isolated <= a.asked.rows))
 }
 
 // Every Ritz place below k.
-fn order_sound(a: Asked, order: [usize; 15]) -> bool
-    requires { AskedReady (asked_in a) }
-    ensures { result ≡ order_sound (asked_in a) order }
+fn order_sound(a: Sound, order: [usize; 15]) -> bool
+    ensures { result ≡ order_sound (asked_in a.asked) order }
 {
-    let k = a.dims + SpectralParams::OVERSAMPLING;
+    let k = a.asked.width();
     for place in order {
         if k <= place {
             return false;
@@ -90,9 +94,12 @@ fn order_sound(a: Asked, order: [usize; 15]) -> bool
 pub fn fields_sound(s: &State) -> bool
     ensures { result ≡ state_sound ieee64 (state_in s.now) }
 {
-    let a = s.asked;
-    asked_sound(a)
-        && (progress_sound(a, s.progress) && (counts_sound(a, s.counts) && order_sound(a, s.order)))
+    let asked = s.asked;
+    if !asked_sound(asked) {
+        return false;
+    }
+    let a = Sound { asked };
+    progress_sound(a, s.progress) && (counts_sound(a, s.counts) && order_sound(a, s.order))
 }
 
 pub fn state_sound(state: State) -> bool

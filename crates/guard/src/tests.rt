@@ -2,26 +2,25 @@
 ghost use Rattle.std.specs.Prelude.{◌≡◌, ◌<◌, length};
 ghost use Rattle.definition.specs.Arith.{ieee64};
 ghost use Rattle.input.specs.Said.{verdict_in};
-ghost use Rattle.machine.specs.State.{Lent};
 ghost use Rattle.machine.specs.Ranges.{test_chunk, test_close};
-ghost use Rattle.state.specs.Said.{asked_in, state_in, lists_in};
-ghost use Rattle.guard.specs.Rows.{ChunkLists, begun_test, own_test, other_lengths};
+ghost use Rattle.state.specs.Said.{asked_in, state_in, lists_of, lent_seen, all_seen};
+ghost use Rattle.guard.specs.Rows.{ChunkLists, begun_test, own_test};
 
-use crate::ranges::{fields_sound, is_open};
-use crate::rows::{lists_sound, own_lengths, rows_sound};
+use crate::ranges::{Sound, fields_sound, is_open};
+use crate::rows::{lists_sound, rows_sound};
 use columns::marks::{first_undone, marks_sound};
-use input::Refusal;
-use state::{Asked, State};
+use input::{Graph, Refusal};
+use state::{MemoryView, State};
 
 // What both calls test first: the state, that a run is open, and that the lists are long enough for it.
 fn test_begun(
     state: &State,
-    starts: &[u64],
-    columns: &[u32],
-    values: &[f64],
-    lengths: [usize; 11],
+    graph: Graph<'_>,
+    memory: MemoryView<'_>,
+    marks: &[u8],
+    ritz_record: &[f64],
 ) -> Result<(), Refusal>
-    ensures { verdict_in result ≡ begun_test (state_in state.now) (lists_in starts.now columns.now values.now) lengths }
+    ensures { verdict_in result ≡ begun_test (state_in state.now) (lists_of graph.entry) (all_seen memory.entry ritz_record.now) marks.now }
 {
     if !fields_sound(state) {
         return Err(Refusal::State);
@@ -29,7 +28,8 @@ fn test_begun(
     if !is_open(state.progress.stage) {
         return Err(Refusal::NoRun);
     }
-    if !lists_sound(state.asked, starts, columns, values, lengths) {
+    let a = Sound { asked: state.asked };
+    if !lists_sound(a, graph, memory, marks, ritz_record) {
         return Err(Refusal::State);
     }
     Ok(())
@@ -39,22 +39,21 @@ fn test_begun(
 #[tactic(auto, using(crate::proofs::Verdicts::own_laws))]
 fn test_own(
     stage: usize,
-    a: Asked,
+    a: Sound,
     h: usize,
-    starts: &[u64],
-    columns: &[u32],
-    edge_columns: &[u32],
+    graph: Graph<'_>,
+    memory: MemoryView<'_>,
     marks: &[u8],
 ) -> Result<(), Refusal>
-    requires chunk_lists { ChunkLists (asked_in a) starts.now columns.now edge_columns.now h }
+    requires chunk_lists { ChunkLists (asked_in a.asked) graph.starts.now graph.columns.now memory.edge_columns.now h }
     requires h_in_bounds { h < length marks.now }
-    ensures { verdict_in result ≡ own_test stage (asked_in a) starts.now columns.now edge_columns.now marks.now h }
+    ensures { verdict_in result ≡ own_test stage (asked_in a.asked) (lists_of graph.entry) (lent_seen memory.entry) marks.now h }
 {
     let mark = marks[h];
     if 1 < mark {
         return Err(Refusal::State);
     }
-    if !rows_sound(stage, a, h, starts, columns, edge_columns) {
+    if !rows_sound(stage, a, h, graph, memory) {
         return Err(Refusal::State);
     }
     if mark != 0 {
@@ -63,53 +62,39 @@ fn test_own(
     Ok(())
 }
 
-// Whether the chunk `number` may be worked on now. The lengths are those of the other lent lists, in document 01's order: all but the edge
-// columns and the marks.
+// Whether the chunk `number` may be worked on now.
 pub fn test_chunk(
     state: State,
     number: usize,
-    starts: &[u64],
-    columns: &[u32],
-    values: &[f64],
-    edge_columns: &[u32],
+    graph: Graph<'_>,
+    memory: MemoryView<'_>,
     marks: &[u8],
-    lengths: [usize; 9],
+    ritz_record: &[f64],
 ) -> Result<(), Refusal>
-    ensures { (m : Lent ieee64) → m.edge_columns ≡ edge_columns.now → other_lengths m ≡ lengths → verdict_in result ≡ test_chunk ieee64 (state_in state) number (lists_in starts.now columns.now values.now) m marks.now }
+    ensures { verdict_in result ≡ test_chunk ieee64 (state_in state) number (lists_of graph.entry) (all_seen memory.entry ritz_record.now) marks.now }
 {
     let asked = state.asked;
     let progress = state.progress;
-    let own = own_lengths(lengths, edge_columns.len(), marks.len());
-    test_begun(&state, starts, columns, values, own)?;
+    test_begun(&state, graph, memory, marks, ritz_record)?;
     if input::chunk_count(asked.rows) <= number {
         return Err(Refusal::Chunk(number));
     }
-    test_own(
-        progress.stage,
-        asked,
-        number,
-        starts,
-        columns,
-        edge_columns,
-        marks,
-    )
+    let a = Sound { asked };
+    test_own(progress.stage, a, number, graph, memory, marks)
 }
 
-// Whether the stage may be closed now. The lengths are those of the other lent lists, as for a chunk.
+// Whether the stage may be closed now.
 pub fn test_close(
     state: State,
-    starts: &[u64],
-    columns: &[u32],
-    values: &[f64],
-    edge_columns: &[u32],
+    graph: Graph<'_>,
+    memory: MemoryView<'_>,
     marks: &[u8],
-    lengths: [usize; 9],
+    ritz_record: &[f64],
 ) -> Result<(), Refusal>
-    ensures { (m : Lent ieee64) → m.edge_columns ≡ edge_columns.now → other_lengths m ≡ lengths → verdict_in result ≡ test_close ieee64 (state_in state) (lists_in starts.now columns.now values.now) m marks.now }
+    ensures { verdict_in result ≡ test_close ieee64 (state_in state) (lists_of graph.entry) (all_seen memory.entry ritz_record.now) marks.now }
 {
     let asked = state.asked;
-    let own = own_lengths(lengths, edge_columns.len(), marks.len());
-    test_begun(&state, starts, columns, values, own)?;
+    test_begun(&state, graph, memory, marks, ritz_record)?;
     let chunks = input::chunk_count(asked.rows);
     if !marks_sound(marks, chunks) {
         return Err(Refusal::State);

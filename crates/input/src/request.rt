@@ -8,7 +8,7 @@ ghost use Rattle.input.specs.Said.{refusal_of, verdict_in, params_of, Allowed};
 
 use crate::chunks::chunk_count;
 use crate::scan::{is_finite, test_columns, test_enough, test_rising, test_values};
-use crate::{Refusal, SpectralParams};
+use crate::{Graph, Refusal, SpectralParams};
 
 // ---- what the tests are made of
 
@@ -52,30 +52,31 @@ fn test_rows(starts: &[u64]) -> Result<(), Refusal>
     refuse_if(starts.len() < 2, Refusal::Rows)
 }
 
-fn test_limits(starts: &[u64], columns: &[u32]) -> Result<(), Refusal>
-    ensures { verdict_in result ≡ refusals.test_limits starts.now columns.now }
+fn test_limits(graph: Graph<'_>) -> Result<(), Refusal>
+    ensures { verdict_in result ≡ refusals.test_limits graph.entry.starts.now graph.entry.columns.now }
 {
-    let n = row_count(starts);
+    let n = row_count(graph.starts);
     refuse_if(
-        SpectralParams::ROWS_MOST < n || SpectralParams::ENTRIES_MOST < columns.len(),
+        SpectralParams::ROWS_MOST < n || SpectralParams::ENTRIES_MOST < graph.columns.len(),
         Refusal::Limits,
     )
 }
 
-fn test_lengths(columns: usize, values: usize) -> Result<(), Refusal>
-    ensures { verdict_in result ≡ refusals.test_lengths columns values }
+fn test_lengths(graph: Graph<'_>) -> Result<(), Refusal>
+    ensures { verdict_in result ≡ refusals.test_lengths (length graph.entry.columns.now) (length graph.entry.values.now) }
 {
-    refuse_if(columns != values, Refusal::Lengths)
+    refuse_if(graph.columns.len() != graph.values.len(), Refusal::Lengths)
 }
 
-fn test_starts(starts: &[u64], columns: &[u32]) -> Result<(), Refusal>
-    ensures { verdict_in result ≡ refusals.test_starts starts.now columns.now }
+fn test_starts(graph: Graph<'_>) -> Result<(), Refusal>
+    ensures { verdict_in result ≡ refusals.test_starts graph.entry.starts.now graph.entry.columns.now }
 {
+    let starts = graph.starts;
     let n = row_count(starts);
     refuse_if(start_at(starts, 0) != 0, Refusal::Starts(0))?;
     test_rising(starts)?;
     refuse_if(
-        start_at(starts, n) != columns.len() as u64,
+        start_at(starts, n) != graph.columns.len() as u64,
         Refusal::Starts(n),
     )
 }
@@ -151,36 +152,34 @@ pub fn test_params(params: SpectralParams) -> Result<(), Refusal>
     test_seed_std(params.seed_std)
 }
 
-pub fn test_graph(starts: &[u64], columns: &[u32], values: &[f64]) -> Result<(), Refusal>
-    ensures { verdict_in result ≡ refusals.test_graph ieee64 starts.now columns.now values.now }
+pub fn test_graph(graph: Graph<'_>) -> Result<(), Refusal>
+    ensures { verdict_in result ≡ refusals.test_graph ieee64 graph.entry.starts.now graph.entry.columns.now graph.entry.values.now }
 {
-    test_rows(starts)?;
-    test_limits(starts, columns)?;
-    test_lengths(columns.len(), values.len())?;
-    test_starts(starts, columns)?;
-    test_columns(row_count(starts), columns)?;
-    test_values(values)
+    test_rows(graph.starts)?;
+    test_limits(graph)?;
+    test_lengths(graph)?;
+    test_starts(graph)?;
+    test_columns(row_count(graph.starts), graph.columns)?;
+    test_values(graph.values)
 }
 
 // What opening and the one call test; lent has the lengths of the lent memory, 0 to 10.
 pub fn test_request(
     d: u64,
     params: SpectralParams,
-    starts: &[u64],
-    columns: &[u32],
-    values: &[f64],
+    graph: Graph<'_>,
     lent: [usize; 11],
 ) -> Result<(), Refusal>
-    ensures { verdict_in result ≡ refusals.test_request ieee64 d (params_of params) starts.now columns.now values.now (wholes_of lent) }
+    ensures { verdict_in result ≡ refusals.test_request ieee64 d (params_of params) graph.entry.starts.now graph.entry.columns.now graph.entry.values.now (wholes_of lent) }
 {
     test_dims(d)?;
-    test_graph(starts, columns, values)?;
+    test_graph(graph)?;
     test_params(params)?;
     test_lent(
         d as usize,
         params.rounds as usize,
-        row_count(starts),
-        columns.len(),
+        row_count(graph.starts),
+        graph.columns.len(),
         lent,
     )
 }

@@ -8,7 +8,7 @@ ghost use Rattle.definition.specs.Numbers.{chunks};
 ghost use Rattle.definition.specs.Refusals.{test_request};
 ghost use Rattle.input.specs.Said.{verdict_of, params_of};
 
-use input::{SpectralParams, Verdict};
+use input::{Graph, SpectralParams, Verdict};
 
 // The lengths of the lent memory, 0 to 10: C hands over no array by value.
 #[repr(C)]
@@ -35,6 +35,10 @@ pub extern "C" fn input_test_request(
 ) -> Verdict
     ensures { verdict_of result ≡ test_request ieee64 d (params_of params) starts.now columns.now values.now (wholes_of lent.lengths) }
 {
-    let lengths = lent.lengths;
-    Verdict::from(input::test_request(d, params, starts, columns, values, lengths))
+    let graph = Graph {
+        starts,
+        columns,
+        values,
+    };
+    Verdict::from(input::test_request(d, params, graph, lent.lengths))
 }

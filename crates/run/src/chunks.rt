@@ -44,27 +44,7 @@ pub fn chunk<'g, 'm>(
     ensures same_places { SamePlaces memory.old memory.new }
 {
     let seen = memory.view();
-    let lengths = [
-        seen.inverse.len(),
-        seen.v0.len(),
-        seen.edge_weights.len(),
-        seen.block0.len(),
-        seen.block1.len(),
-        seen.block2.len(),
-        seen.partials.len(),
-        seen.output.len(),
-        ritz_record.len(),
-    ];
-    let tested = guard::test_chunk(
-        state,
-        number,
-        graph.starts,
-        graph.columns,
-        graph.values,
-        seen.edge_columns,
-        &marks[..],
-        lengths,
-    );
+    let tested = guard::test_chunk(state, number, graph, seen, &marks[..], ritz_record);
     let verdict = Verdict::from(tested);
     let is_refused = tested.is_err();
     if is_refused {

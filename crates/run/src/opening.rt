@@ -1,10 +1,10 @@
 // Opening: the request is tested, the marks are cleared, and the run stands before its first stage.
-ghost use Rattle.std.specs.Prelude.{◌≡◌, List, Float};
+ghost use Rattle.std.specs.Prelude.{◌≡◌};
 ghost use Rattle.definition.specs.Arith.{ieee64};
 ghost use Rattle.input.specs.Said.{params_of};
 ghost use Rattle.machine.specs.State.{begun_at, opened_state, empty_state};
 ghost use Rattle.machine.specs.Calls.{open_call};
-ghost use Rattle.state.specs.Said.{asked_in, state_in, lists_in, lists_of, all_seen, outcome_in};
+ghost use Rattle.state.specs.Said.{asked_in, state_in, lists_of, all_seen, outcome_in};
 
 use columns::marks::clear_marks;
 use input::{Graph, SpectralParams, Verdict};
@@ -64,13 +64,13 @@ fn empty_state() -> State
 }
 
 // Before the first stage of what was asked. The values of the graph have no part in it.
-fn opened_state(d: u64, params: SpectralParams, starts: &[u64], columns: &[u32]) -> State
-    ensures { (values : List Float) → state_in result ≡ opened_state ieee64 d (params_of params) (lists_in starts.now columns.now values) }
+fn opened_state(d: u64, params: SpectralParams, graph: Graph<'_>) -> State
+    ensures { state_in result ≡ opened_state ieee64 d (params_of params) (lists_of graph.entry) }
 {
     let asked = Asked {
         dims: d as usize,
-        rows: input::row_count(starts),
-        entries: columns.len(),
+        rows: input::row_count(graph.starts),
+        entries: graph.columns.len(),
         rounds: params.rounds as usize,
         degree: params.degree as usize,
         seed_std: params.seed_std,
@@ -90,32 +90,15 @@ pub fn open<'g, 'm>(
     ensures { outcome_in result (all_seen memory.entry ritz_record.now) marks.new
         ≡ open_call ieee64 d (params_of params) (lists_of graph.entry) (all_seen memory.entry ritz_record.now) marks.old }
 {
-    let Graph {
-        starts,
-        columns,
-        values,
-    } = graph;
-    let lengths = [
-        memory.inverse.len(),
-        memory.v0.len(),
-        memory.edge_columns.len(),
-        memory.edge_weights.len(),
-        memory.block0.len(),
-        memory.block1.len(),
-        memory.block2.len(),
-        memory.partials.len(),
-        marks.len(),
-        memory.output.len(),
-        ritz_record.len(),
-    ];
-    let tested = input::test_request(d, params, starts, columns, values, lengths);
+    let lengths = memory.lengths(&marks[..], ritz_record);
+    let tested = input::test_request(d, params, graph, lengths);
     let verdict = Verdict::from(tested);
     if tested.is_err() {
         let state = empty_state();
         return Answer { verdict, state };
     }
-    let n = input::row_count(starts);
+    let n = input::row_count(graph.starts);
     clear_marks(marks, input::chunk_count(n));
-    let state = opened_state(d, params, starts, columns);
+    let state = opened_state(d, params, graph);
     Answer { verdict, state }
 }

@@ -46,26 +46,7 @@ pub fn close<'g, 'm>(
     ensures { outcome_in result (all_seen memory.entry ritz_record.new) marks.new
         ≡ close_call ieee64 (state_in state) (lists_of graph.entry) (all_seen memory.entry ritz_record.old) marks.old }
 {
-    let lengths = [
-        memory.inverse.len(),
-        memory.v0.len(),
-        memory.edge_weights.len(),
-        memory.block0.len(),
-        memory.block1.len(),
-        memory.block2.len(),
-        memory.partials.len(),
-        memory.output.len(),
-        ritz_record.len(),
-    ];
-    let tested = guard::test_close(
-        state,
-        graph.starts,
-        graph.columns,
-        graph.values,
-        memory.edge_columns,
-        &marks[..],
-        lengths,
-    );
+    let tested = guard::test_close(state, graph, memory, &marks[..], &ritz_record[..]);
     let verdict = Verdict::from(tested);
     if tested.is_err() {
         return Answer { verdict, state };

@@ -15,7 +15,7 @@ ghost use Rattle.spectral.specs.Said.{whole_in, done_up, params_asked};
 
 use input::{Graph, SpectralParams, Verdict};
 use stages::StateParts;
-use state::{Counts, Memory, State};
+use state::{Counts, Memory, Stage, State};
 
 // The verdict and the counts of the whole run; zero counts with a refusal. A record and no `Result`: C gets it of `threshcinch_spectral_embedding`.
 #[repr(C)]
@@ -70,9 +70,8 @@ fn all_stages<'g, 'm>(
 {
     let mut reached = state;
     for closed in 0..2_000_000usize {
-        let progress = reached.progress;
-        let stage = progress.stage;
-        if stage == 20 {
+        let stage = reached.progress.stage;
+        if stage == Stage::Ended.number() {
             return reached.counts;
         }
         all_chunks(reached, graph, memory, marks);

@@ -1,7 +1,9 @@
 // The memory that a run is lent, in document 01's order. The marks (8) and the Ritz record (10) are lent beside it: no chunk's work reads
 // or writes them.
 ghost use Rattle.std.specs.Prelude.{◌≡◌};
-ghost use Rattle.state.specs.Said.{lent_of, lent_seen};
+ghost use Rattle.definition.specs.Arith.{ieee64};
+ghost use Rattle.machine.specs.State.{lengths_of};
+ghost use Rattle.state.specs.Said.{lent_of, lent_seen, all_seen};
 
 // The lists that chunks work on, lent memory 0 to 7 and 9.
 #[derive(Drop)]
@@ -47,5 +49,27 @@ impl<'a> Memory<'a> {
             partials: &*self.partials,
             output: &*self.output,
         }
+    }
+}
+
+impl<'a> MemoryView<'a> {
+    // The lengths of lent memory 0 to 10. An array and no struct: document 01 numbers the lent memory, `input::lent_sizes` answers its sizes by
+    // that number, and refusal 11 names one by it.
+    pub fn lengths(self, marks: &[u8], ritz_record: &[f64]) -> [usize; 11]
+        ensures { result ≡ lengths_of ieee64 (all_seen self.entry ritz_record.now) marks.now }
+    {
+        [
+            self.inverse.len(),
+            self.v0.len(),
+            self.edge_columns.len(),
+            self.edge_weights.len(),
+            self.block0.len(),
+            self.block1.len(),
+            self.block2.len(),
+            self.partials.len(),
+            marks.len(),
+            self.output.len(),
+            ritz_record.len(),
+        ]
     }
 }

@@ -9,7 +9,7 @@ ghost use Rattle.printing.specs.Room.{judged_in, length_in, Leaves};
 ghost use Rattle.files.specs.RunText.{test_sizes, test_file, test_run, test_write, run_text};
 ghost use Rattle.writing.specs.Putting.{item_text, joined_by, line_by, head_text, Puts, Room};
 
-use input::{Refusal, SpectralParams};
+use input::{Graph, Refusal, SpectralParams};
 use printing::put_text;
 use reading::{ENTRIES_MOST, ROUNDS_MOST, STARTS_MOST};
 
@@ -147,7 +147,11 @@ fn test_file(
     ensures { verdict_in result ≡ test_file d (params_of params) starts.now columns.now values.now }
 {
     input::test_dims(d)?;
-    input::test_graph(starts, columns, values)?;
+    input::test_graph(Graph {
+        starts,
+        columns,
+        values,
+    })?;
     input::test_params(params)
 }
 

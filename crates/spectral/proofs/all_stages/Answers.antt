@@ -13,9 +13,9 @@ use Rattle.spectral.proofs.all_stages.Goals as goal
 pub loop-closed-init : goal.loop-closed-init
 loop-closed-init c = (none-closed _ _ _ _ _ _ c.requires.state_value, refl, refl, same_places _)
 
-pub returns-then-stage-eq20 : goal.returns-then-stage-eq20
-returns-then-stage-eq20 c =
-    let e = ended c.requires.accepted c.loop-closed.invariant.0 c.if-stage-eq20.true in
+pub returns-then-stage-number : goal.returns-then-stage-number
+returns-then-stage-number c =
+    let e = ended c.requires.accepted c.loop-closed.invariant.0 (c.if-stage-number.true ∙ c.number.ensures) in
     record { result_value = e.0; memory_after = e.1.0; same_places = c.loop-closed.invariant.3; marks_unchanged = e.1.1 }
 
 pub all_chunks-requires : goal.all_chunks-requires
@@ -50,7 +50,7 @@ loop-closed-preserved c =
     let d = c.all_chunks in
     let t = c.close_stage-reached in
     let k = d.auto in (
-      closed-next ok i.0 d.ensures.memory_after d.ensures.marks_after (to_come ok i.0 c.if-stage-eq20.false)
+      closed-next ok i.0 d.ensures.memory_after d.ensures.marks_after (to_come ok i.0 (λ p. c.if-stage-number.false (p ∙ sym c.number.ensures)))
           (t.ensures.result_value ∙ ap (λ (m : Lent ieee64). closed_by ieee64 (stage_of c.loop-closed.reached.progress.stage) (state_in c.loop-closed.reached) m.v0 m.partials) c.view-seen.ensures)
           t.ensures.marks_after t.ensures.ritz_record_after (opened-marks _ _ _ _ c.requires.state_value c.requires.marks_value),
       t.auto.marks ∙ k.marks ∙ i.1,

@@ -18,9 +18,6 @@ rounds-few c =
 refreshed-few : (c : After-round_stages) → c.args.refreshed ≤ 15_000
 refreshed-few c = omega (arith, c.requires.refreshed-few, columns-few c.requires.asked)
 
-pub round_stages-requires : goal.round_stages-requires
-round_stages-requires c = c.requires.asked
-
 pub overflow_mul-result : goal.overflow_mul-result
 overflow_mul-result c = omega (arith, rounds-few (goal.at.overflow_mul-result c).After-round_stages, refreshed-few (goal.at.overflow_mul-result c).After-round_stages)
 

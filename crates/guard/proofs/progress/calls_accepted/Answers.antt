@@ -18,6 +18,9 @@ few c = omega (arith, chunks-few (begun (state_in c.args.state) (sym c.has_run.e
 pub returns-then-not-has_run : goal.returns-then-not-has_run
 returns-then-not-has_run c = none-accepted (state_in c.args.state) (sym c.has_run.ensures ∙ c.if-not-has_run.true)
 
+pub invariant_of-a : goal.invariant_of-a
+invariant_of-a c = record { ready = (opened (goal.at.invariant_of-a c).Else-not-has_run).asked }
+
 pub closed_stages-closed-requires : goal.closed_stages-closed-requires
 closed_stages-closed-requires c = opened (goal.at.closed_stages-closed-requires c).Else-not-has_run
 

@@ -21,10 +21,12 @@ left-few c = omega (arith, c.saturating_sub.ensures, c.run_stages-run.ensures.up
 pub returns-then-not-has_run : goal.returns-then-not-has_run
 returns-then-not-has_run c = none_owed (state_in c.args.state) (sym c.has_run.ensures ∙ c.if-not-has_run.true)
 
+pub invariant_of-a : goal.invariant_of-a
+invariant_of-a c = record { ready = (opened (goal.at.invariant_of-a c).Else-not-has_run).asked }
+
 pub run_stages-run-requires : goal.run_stages-run-requires
 run_stages-run-requires c =
-    let b = opened (goal.at.run_stages-run-requires c).Else-not-has_run in
-    record { asked_ready = b.asked; refreshed_bound = b.refreshed-few }
+    (opened (goal.at.run_stages-run-requires c).Else-not-has_run).refreshed-few
 
 pub closed_stages-closed-requires : goal.closed_stages-closed-requires
 closed_stages-closed-requires c = opened (goal.at.closed_stages-closed-requires c).Else-not-has_run

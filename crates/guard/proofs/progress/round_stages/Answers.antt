@@ -4,4 +4,4 @@ use Rattle.guard.proofs.progress.round_stages.Goals as goal
 
 pub returns : goal.returns
 unfolding round_stages
-returns c = refl
+returns c = rw c.width.ensures refl

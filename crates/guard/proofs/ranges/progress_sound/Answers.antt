@@ -10,7 +10,7 @@ use Rattle.guard.proofs.ranges.progress_sound.Goals as goal
 pub returns-then-p-le1 : goal.returns-then-p-le1
 unfolding progress_sound
 returns-then-p-le1 c =
-    let s = c.args in let a = s.a in let p = s.p in
+    let s = c.args in let a = s.a.asked in let p = s.p in
     passed refl (le-leb p.stage 20 (omega arith))
     (passed refl (lt-ltb p.round a.rounds (omega arith))
     (passed refl (lt-ltb p.pass a.degree (omega arith))
@@ -21,7 +21,7 @@ returns-then-p-le1 c =
 pub returns-else-p-le1 : goal.returns-else-p-le1
 unfolding progress_sound
 returns-else-p-le1 c =
-    let s = c.args in let a = s.a in let p = s.p in
+    let s = c.args in let a = s.a.asked in let p = s.p in
     passed refl (le-leb p.stage 20 (omega arith))
     (passed refl (lt-ltb p.round a.rounds (omega arith))
     (passed refl (lt-ltb p.pass a.degree (omega arith))
@@ -31,16 +31,17 @@ returns-else-p-le1 c =
 pub returns-else-p-k : goal.returns-else-p-k
 unfolding progress_sound
 returns-else-p-k c =
-    let s = c.args in let a = s.a in let p = s.p in
-    passed refl (le-leb p.stage 20 (omega arith))
+    let s = c.args in let a = s.a.asked in let p = s.p in
+    rw c.width-k.ensures
+    (passed refl (le-leb p.stage 20 (omega arith))
     (passed refl (lt-ltb p.round a.rounds (omega arith))
     (passed refl (lt-ltb p.pass a.degree (omega arith))
-    (failed refl _ (le-ltb p.column (a.dims + 8) (omega arith)))))
+    (failed refl _ (le-ltb p.column (a.dims + 8) (omega arith))))))
 
 pub returns-else-p-a-2 : goal.returns-else-p-a-2
 unfolding progress_sound
 returns-else-p-a-2 c =
-    let s = c.args in let a = s.a in let p = s.p in
+    let s = c.args in let a = s.a.asked in let p = s.p in
     passed refl (le-leb p.stage 20 (omega arith))
     (passed refl (lt-ltb p.round a.rounds (omega arith))
     (failed refl _ (le-ltb p.pass a.degree (omega arith))))
@@ -48,12 +49,12 @@ returns-else-p-a-2 c =
 pub returns-else-p-a : goal.returns-else-p-a
 unfolding progress_sound
 returns-else-p-a c =
-    let s = c.args in let a = s.a in let p = s.p in
+    let s = c.args in let a = s.a.asked in let p = s.p in
     passed refl (le-leb p.stage 20 (omega arith))
     (failed refl _ (le-ltb p.round a.rounds (omega arith)))
 
 pub returns-else-p-le-LAST_STAGE : goal.returns-else-p-le-LAST_STAGE
 unfolding progress_sound
 returns-else-p-le-LAST_STAGE c =
-    let s = c.args in let a = s.a in let p = s.p in
+    let s = c.args in let a = s.a.asked in let p = s.p in
     failed refl _ (lt-leb p.stage 20 (omega arith))

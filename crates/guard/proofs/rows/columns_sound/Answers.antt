@@ -17,10 +17,10 @@ pub bounds-starts-end_row : goal.bounds-starts-end_row
 bounds-starts-end_row c = let s = chunk-ends _ _ _ _ c.requires.starts c.first_row-first_row.ensures c.end_row-end_row.ensures in omega arith
 
 pub overflow_sub-last : goal.overflow_sub-last
-overflow_sub-last c = omega (arith, c.requires.asked_ready.rows-least)
+overflow_sub-last c = omega (arith, c.args.a.ready.rows-least)
 
 pub overflow_cast-last : goal.overflow_cast-last
-overflow_cast-last c = omega (arith, c.requires.asked_ready.rows-most)
+overflow_cast-last c = omega (arith, c.args.a.ready.rows-most)
 
 pub offset_bounds-starts-first_row : goal.offset_bounds-starts-first_row
 offset_bounds-starts-first_row c = let s = chunk-ends _ _ _ _ c.requires.starts c.first_row-first_row.ensures c.end_row-end_row.ensures in omega arith
@@ -35,8 +35,8 @@ loop-p-init c =
 
 pub loop-p-preserved : goal.loop-p-preserved
 loop-p-preserved c =
-    let high : ℕ → Bool = λ q. leb c.args.a.rows (get_or c.args.columns.now q 0) in
-    let one : ltb (c.args.a.rows - 1) (get_or c.args.columns.now c.loop-p.p 0) ≡ high c.loop-p.p = past_high c.args.a.rows _ c.requires.asked_ready.rows-least in
+    let high : ℕ → Bool = λ q. leb c.args.a.asked.rows (get_or c.args.columns.now q 0) in
+    let one : ltb (c.args.a.asked.rows - 1) (get_or c.args.columns.now c.loop-p.p 0) ≡ high c.loop-p.p = past_high c.args.a.asked.rows _ c.args.a.ready.rows-least in
     (omega arith, omega arith, omega arith, ap₂ (λ (x y : Bool). x || y) c.loop-p.invariant.3 one ∙ found-more high _ c.loop-p.p (omega arith))
 
 pub returns : goal.returns

@@ -13,7 +13,7 @@ use Rattle.input.proofs.request.test_limits.Goals.{then-n-gt-ROWS_MOST, else-n-g
 pub returns : goal.returns
 unfolding test_limits
 returns c =
-    let many = ltb entries_most (length c.args.columns.now) in
+    let many = ltb entries_most (length c.args.graph.columns.now) in
     c.refuse_if.ensures
     ∙ ap (λ (b : Bool). given b 3 0) (elim c.if-n-gt-ROWS_MOST.branch [ then-n-gt-ROWS_MOST w ↦ or_decided many (lt-ltb _ _ w.if-n-gt-ROWS_MOST.true) w.refuse_if-is | else-n-gt-ROWS_MOST w ↦ or_open many (le-ltb _ _ w.if-n-gt-ROWS_MOST.false) w.refuse_if-is ])
     ∙ ap (λ (n : ℕ). given (ltb rows_most n || many) 3 0) c.row_count-n.ensures

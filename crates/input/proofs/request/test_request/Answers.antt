@@ -28,7 +28,7 @@ pub test_lent-requires : goal.test_lent-requires
 test_lent-requires c =
     let s = c.args in
     let dims = dims_valid s.d (passed c.in_ok-test_dims.ensures) in
-    let graph = graph_valid ieee64 s.starts.now s.columns.now s.values.now (passed c.in_ok-test_graph.ensures) in
+    let graph = graph_valid ieee64 s.graph.starts.now s.graph.columns.now s.graph.values.now (passed c.in_ok-test_graph.ensures) in
     let set = params_valid _ (passed c.in_ok-test_params.ensures) in
     record { dims = dims.1; rounds-few = set.rounds-most; rows = omega (arith, graph.rows-most, c.row_count.ensures); entries = graph.entries-most }
 
@@ -39,4 +39,4 @@ returns c =
     goes_past c.in_ok-test_dims.ensures
     (goes_past c.in_ok-test_graph.ensures
     (goes_past c.in_ok-test_params.ensures
-    (c.test_lent.ensures ∙ ap (λ (n : ℕ). test_lent s.d s.params.rounds n (length s.columns.now) (wholes_of s.lent)) c.row_count.ensures)))
+    (c.test_lent.ensures ∙ ap (λ (n : ℕ). test_lent s.d s.params.rounds n (length s.graph.columns.now) (wholes_of s.lent)) c.row_count.ensures)))

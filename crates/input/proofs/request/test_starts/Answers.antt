@@ -9,7 +9,7 @@ use Rattle.input.proofs.request.test_starts.Goals as goal
 use Rattle.input.proofs.request.test_starts.Goals.{In_ok-refuse_if}
 
 -- the first test, once it has passed
-first-start : (c : In_ok-refuse_if) → accepted ≡ given (not (eqb (get_or c.args.starts.now 0 0) 0)) 5 0
+first-start : (c : In_ok-refuse_if) → accepted ≡ given (not (eqb (get_or c.args.graph.starts.now 0 0) 0)) 5 0
 first-start c = c.in_ok-refuse_if.ensures ∙ ap (λ (x : ℕ). given (not (eqb x 0)) 5 0) c.start_at.ensures
 
 pub returns-in_err-refuse_if : goal.returns-in_err-refuse_if
@@ -31,5 +31,5 @@ returns c =
     goes_past (first-start (goal.at.returns c).In_ok-refuse_if)
     (goes_past c.in_ok-test_rising.ensures
     (c.refuse_if-2.ensures
-    ∙ ap (λ (x : ℕ). given (not (eqb x (length s.columns.now))) 5 n.result) c.start_at-2.ensures
-    ∙ ap (λ (i : ℕ). given (not (eqb (get_or s.starts.now i 0) (length s.columns.now))) 5 i) n.ensures))
+    ∙ ap (λ (x : ℕ). given (not (eqb x (length s.graph.columns.now))) 5 n.result) c.start_at-2.ensures
+    ∙ ap (λ (i : ℕ). given (not (eqb (get_or s.graph.starts.now i 0) (length s.graph.columns.now))) 5 i) n.ensures))

@@ -4,4 +4,4 @@ use Rattle.run.proofs.opening.opened_state.Goals as goal
 
 pub returns : goal.returns
 unfolding opened_state
-returns c = λ values. c.begun_at.ensures ∙ rw c.row_count.ensures
+returns c = c.begun_at.ensures ∙ rw c.row_count.ensures
