@@ -2,12 +2,12 @@
 use mathlib.Core.Path.{◌≡◌, refl, sym, ap, ap₂, ◌∙◌}
 use mathlib.Core.Bool.{Bool, true, false, cond, not, ◌&&◌, false≢true}
 use mathlib.Core.List.{List, [], ◌∷◌}
-use Prim.Native.Nat.{ℕ, zero, suc, ◌+◌, ◌-◌, ◌≤◌}
+use Prim.Native.Nat.{ℕ, suc, ◌+◌, ◌-◌, ◌≤◌}
 use native.Mathlib.Omega.{arith}
 use borrow.Author.Tests.{eq-eqb, eqb-true, le-leb, leb-true}
 use lib.Dec.{eqb, leb}
 use lib.Pointwise.{pointwise}
-use lib.ListN.{length, take, drop, length-take}
+use lib.ListN.{length, take, drop, length-take, length-drop}
 use Rattle.std.specs.Prelude.{Option, Some, None, MatchOption, IsTrue, ◌↔◌, ◌==◌, map, is_some}
 use Rattle.std.specs.List.{list_all, take_while}
 use Rattle.std.specs.Char.{to_ascii_lowercase}
@@ -16,9 +16,10 @@ use Rattle.digits.proofs.Bytes.{both, both_of, not_right, settle}
 use Rattle.lines.specs.Lines.{lines_of, goes_on, words_of}
 use Rattle.lines.specs.Kinds.{bytes_most}
 use Rattle.lines.specs.Banner.{same_by, is_letter, are_words, banner_word, banner_tests, is_banner}
-use Rattle.lines.specs.Parts.{line_at, end_length, is_small, four_tests, FindsWord, FailsWord}
+use Rattle.lines.specs.Parts.{line_goes_on, line_at, end_length, is_small, four_tests, FindsWord, FailsWord}
 use Rattle.lines.specs.Read.{ReadsBanner}
-use Rattle.lines.proofs.Ends.{line_first, next-within}
+use Rattle.lines.proofs.Runs.{at_most, at_end}
+use Rattle.lines.proofs.Ends.{goes_nil, end_within, line_first}
 use Rattle.lines.proofs.Words.{not_blank, word-front, word-off, words-length}
 
 -- ---- a word "in either case"
@@ -162,44 +163,18 @@ module _ (line : List ℕ) (n : ℕ) (long : n ≡ length (take_while not_blank 
       true-or true k = refl
       true-or false k = absurd (k refl)
 
-banner_nil : is_banner [] ≡ false
-banner_nil = settle (is_banner []) (λ e. absurd (omega (arith, banner-long [] e)))
-
-drop_none : (xs : List ℕ) → length xs ≡ 0 → xs ≡ []
-drop_none [] h = refl
-drop_none (x ∷ xs) h = absurd (omega arith)
-
 -- ---- the first line
-module _ (text : List ℕ) (end next : ℕ) (e : end ≡ 0 + length (line_at text 0)) where
-  -- where the second line begins; of an empty text, at its end
-  pub read_first : (t : Bool) → next ≡ end + end_length (drop end text) → t ≡ is_banner (take end text) → ReadsBanner text (cond t (Some next) None)
-  read_first t n r = go (length text) refl
-    where
-      b : cond t (Some next) None ≡ cond (is_banner (take end text)) (Some next) None
-      b = ap (λ (s : Bool). cond s (Some next) None) r
-
-      k : end - 0 ≡ end
-      k = omega arith
-
-      no-bytes : (xs : List ℕ) (i : ℕ) → length xs ≡ 0 → take i xs ≡ []
-      no-bytes xs i h = drop_none (take i xs) (omega (arith, length-take i xs))
-
-      go : (m : ℕ) → length text ≡ m → ReadsBanner text (cond t (Some next) None)
-      go zero h =
-          let none : is_banner (take end text) ≡ false = ap is_banner (no-bytes text end h) ∙ banner_nil in
-          record {
-            line = take end text;
-            next = 0;
-            lines = λ p. absurd (omega arith);
-            right = b ∙ ap (λ (t : Bool). cond t (Some next) None) none ∙ sym (ap (λ (t : Bool). cond t (Some 0) None) none);
-            within = omega arith;
-            on = λ q. absurd (false≢true (sym none ∙ q));
-          }
-      go (suc m) h = record {
-        line = take end text;
-        next = next;
-        lines = λ p. line_first text 0 end (omega arith) e next n ∙ ap (λ (m : ℕ). take m text ∷ lines_of (drop next text)) k;
-        right = b;
-        within = next-within text 0 end (omega arith) e next n;
-        on = λ q. omega (arith, banner-long (take end text) q, length-take end text);
-      }
+-- of an empty text it is no banner, and the second begins at its end
+pub read_first : (text : List ℕ) (end next : ℕ) (right : Bool) → end ≡ 0 + length (line_at text 0) → next ≡ end + end_length (drop end text)
+    → right ≡ is_banner (take end text) → ReadsBanner text (record { is_right = right; next = next })
+read_first text end next right e n r =
+    let k : end - 0 ≡ end = omega arith in
+    let most : end ≤ length text = omega (arith, at_most line_goes_on text 0 (omega arith)) in
+    let behind : end_length (drop end text) ≤ length (drop end text) = end_within (drop end text) (at_end line_goes_on text 0 end e goes_nil) in
+    record {
+      line = take end text;
+      lines = λ p. line_first text 0 end (omega arith) e next n ∙ ap (λ (m : ℕ). take m text ∷ lines_of (drop next text)) k;
+      right = r;
+      within = omega (arith, length-drop end text);
+      on = λ b. omega (arith, banner-long (take end text) b, length-take end text);
+    }

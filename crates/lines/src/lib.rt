@@ -27,6 +27,14 @@ pub struct LineRead {
     pub next: usize,
 }
 
+// Whether the first line is the banner, and where the second begins. A record and no Option: it stays since `read_banner` promises where the
+// second line begins, of a wrong first line too.
+#[derive(Drop)]
+pub struct BannerRead {
+    pub is_right: bool,
+    pub next: usize,
+}
+
 // Digits as a number, and the place behind them.
 #[derive(Drop)]
 struct DigitsRead {
@@ -307,13 +315,12 @@ fn is_banner(line: &[u8]) -> bool
     are_words(rest)
 }
 
-// The first line: where the second begins, if it is the banner.
-pub fn read_banner(text: &[u8]) -> Option<usize>
+// The first line.
+pub fn read_banner(text: &[u8]) -> BannerRead
     ensures { ReadsBanner text.now result }
 {
     let end = line_end(text, 0);
-    if !is_banner(&text[..end]) {
-        return None;
-    }
-    Some(next_line(text, end))
+    let is_right = is_banner(&text[..end]);
+    let next = next_line(text, end);
+    BannerRead { is_right, next }
 }

@@ -11,19 +11,19 @@ use types.Run.{OneOf}
 use lib.ListN.{length}
 use Rattle.digits.proofs.Bytes.{lt_or_ge}
 use Rattle.lines.proofs.Ends.{kinds_end}
-use Rattle.lines.specs.Banner.{is_banner}
 use Rattle.lines.specs.contracts.Kind as KindOf
 use Rattle.lines.specs.Lines.{lines_of}
 use Rattle.lines.specs.Kinds.{kinds_at}
 use Rattle.lines.specs.Read.{ReadsLine, ReadsBanner}
 use Rattle.lines.specs.declared.Kind.{Kind}
 use Rattle.lines.specs.declared.Kind.TheVariants as K
+use Rattle.lines.specs.declared.BannerRead.{BannerRead}
 use Rattle.lines.specs.declared.LineRead.{LineRead}
 use Rattle.market.specs.Market.{sized, wrong, head_from, head_of, right_size}
 use Rattle.scanning.specs.Said.{Place, ReadsHead}
 use Rattle.scanning.specs.Inner.{FindsSize}
 use Rattle.scanning.specs.declared.HeadRead.{HeadRead}
-use Rattle.std.specs.Prelude.{Option, Some, None, Result, Ok, Err}
+use Rattle.std.specs.Prelude.{Result, Ok, Err}
 
 -- which of its variants a kind is, counted from 0: what an arm of a `match` with several knows
 abbrev pub variant : Kind → ℕ
@@ -115,43 +115,26 @@ unfolding lines_of head_of
 head_empty [] h = refl
 head_empty (b ∷ bs) h = absurd (omega arith)
 
-module _ (text : List ℕ) where
+module _ (text : List ℕ) (b : BannerRead) (reads : ReadsBanner text b) where
   -- by the first line, where there is one
-  head_told_lem : (r : Option ℕ) (b : ReadsBanner text r) → 1 ≤ length text → (t : Bool) → is_banner b.line ≡ t
-      → head_of (lines_of text) ≡ cond t (head_from 2 (kinds_at text b.next)) (wrong 1)
+  head_told_lem : 1 ≤ length text → (t : Bool) → b.is_right ≡ t → head_of (lines_of text) ≡ cond t (head_from 2 (kinds_at text b.next)) (wrong 1)
   unfolding head_of
-  head_told_lem r b some t e = ap head_of (b.lines some) ∙ ap (λ (u : Bool). cond u (head_from 2 (kinds_at text b.next)) (wrong 1)) e
+  head_told_lem some t e =
+      ap head_of (reads.lines some)
+      ∙ ap (λ (u : Bool). cond u (head_from 2 (kinds_at text b.next)) (wrong 1)) (sym reads.right ∙ e)
 
-  no_line : (b : ReadsBanner text None) → is_banner b.line ≡ false
-  no_line b = go (is_banner b.line) b.right
-    where
-      go : (t : Bool) → None ≡ cond t (Some b.next) None → t ≡ false
-      go true e = absurd cc
-      go false e = refl
-
-  pub head-wrong : ReadsBanner text None → ReadsHead text (Err 1)
-  head-wrong b = record {
-    is = ⊎_elim (λ h. head_told_lem None b h false (no_line b)) (λ h. head_empty text (omega arith)) (lt_or_ge 0 (length text));
+  pub head-wrong : b.is_right ≡ false → ReadsHead text (Err 1)
+  head-wrong e = record {
+    is = ⊎_elim (λ h. head_told_lem h false e) (λ h. head_empty text (omega arith)) (lt_or_ge 0 (length text));
     within = omega arith;
     line = omega arith;
   }
 
-  module _ (next : ℕ) (b : ReadsBanner text (Some next)) where
-    its_line : (is_banner b.line ≡ true) × (b.next ≡ next)
-    its_line = go (is_banner b.line) b.right
-      where
-        go : (t : Bool) → Some next ≡ cond t (Some b.next) None → (t ≡ true) × (b.next ≡ next)
-        go true e = (refl, cc)
-        go false e = absurd cc
+  module _ (right : b.is_right ≡ true) where
+    pub head-place : Place text b.next 2
+    head-place = record { within = reads.within; line = reads.on (sym reads.right ∙ right) }
 
-    pub head-place : Place text next 2
-    head-place = let on : 2 ≤ b.next = b.on its_line.0 in record { within = omega (arith, its_line.1, b.within); line = omega (arith, its_line.1) }
-
-    pub head-right : (r : Result HeadRead ℕ) → FindsSize text next r → ReadsHead text r
+    pub head-right : (r : Result HeadRead ℕ) → FindsSize text b.next r → ReadsHead text r
     head-right r f =
-        let on : 2 ≤ b.next = b.on its_line.0 in
-        record {
-          is = head_told_lem (Some next) b (omega (arith, b.within)) true its_line.0 ∙ ap (λ (n : ℕ). head_from 2 (kinds_at text n)) its_line.1 ∙ f.is;
-          within = f.within;
-          line = f.line;
-        }
+        let on : 2 ≤ b.next = reads.on (sym reads.right ∙ right) in
+        record { is = head_told_lem (omega (arith, reads.within)) true right ∙ f.is; within = f.within; line = f.line }

@@ -91,10 +91,11 @@ fn size_from(text: &[u8], from: usize) -> Result<HeadRead, u64>
 pub fn read_head(text: &[u8]) -> Result<HeadRead, u64>
     ensures { ReadsHead text.now result }
 {
-    match lines::read_banner(text) {
-        Some(next) => size_from(text, next),
-        None => Err(1),
+    let banner = lines::read_banner(text);
+    if banner.is_right {
+        return size_from(text, banner.next);
     }
+    Err(1)
 }
 
 // The entries so far: how many, how many of them off the diagonal, the last one (0 and 0 before the first, which is greater, as rows and

@@ -75,9 +75,10 @@ fn stage_work<'a, 'g>(
     };
     let stage = Stage::from(progress.stage);
     match stage {
-        Stage::Degrees => setup::degrees_stage(chunk, starts, values, inverse, v0),
+        Stage::Degrees => setup::degrees_stage(asked, h, starts, values, inverse, v0),
         Stage::Edges => setup::edges_stage(
-            chunk,
+            asked,
+            h,
             starts,
             columns,
             values,
@@ -85,7 +86,7 @@ fn stage_work<'a, 'g>(
             edge_columns,
             edge_weights,
         ),
-        Stage::V0 => setup::v0_stage(chunk, v0),
+        Stage::V0 => setup::v0_stage(asked, progress.norm, h, v0),
         Stage::StartBlock => blocks::start_stage(chunk, block0),
         Stage::FilterPass => {
             let edges = Edges {
@@ -119,10 +120,10 @@ fn stage_work<'a, 'g>(
         }
         Stage::Products => blocks::products_stage(blocks, partials),
         Stage::Rotate => blocks::rotate_stage(blocks, vectors, order, inverse, output),
-        Stage::Sums => output::sums_stage(chunk, output, partials),
-        Stage::Centre => output::centre_stage(chunk, totals, output),
-        Stage::Squares => output::squares_stage(chunk, output, partials),
-        Stage::Scale => output::scale_stage(chunk, totals, output),
+        Stage::Sums => output::sums_stage(asked, h, output, partials),
+        Stage::Centre => output::centre_stage(asked, totals, h, output),
+        Stage::Squares => output::squares_stage(asked, h, output, partials),
+        Stage::Scale => output::scale_stage(asked, totals, h, output),
         Stage::Empty | Stage::Ended => {}
     }
 }

@@ -1,90 +1,101 @@
 // The chunk work of the last four stages, on the rows of one chunk of the output. Each contract says what becomes of the whole lent
 // memory, whatever the lists are that the stage leaves alone.
-// Sums and squares stay two functions, and so do centring and scaling: the body of each is one call, and its contract names its own work.
-ghost use Rattle.std.specs.Prelude.{◌≡◌, List, ℕ, ◌*◌, ◌≤◌, Float, length};
+// What was asked and the chunk's number stand by themselves and not as a `Chunk`: these functions are public and ask no more than they did.
+ghost use Rattle.std.specs.Prelude.{◌≡◌, List, ℕ, ◌*◌, ◌≤◌, ◌<◌, Float, length};
 ghost use Rattle.definition.specs.Arith.{ieee64};
 ghost use Rattle.machine.specs.State.{chunk_count, wide};
+ghost use Rattle.machine.specs.Ready.{AskedReady};
 ghost use Rattle.machine.specs.Work.{sums_work, squares_work, centre_work, scale_work};
 ghost use Rattle.state.specs.Said.{asked_in, lent_in};
 
-use blocks::Chunk;
+use state::Asked;
 
 // The chunk's partial of the columns' sums, at its own place among the partials.
-pub fn sums_stage(chunk: Chunk, output: &[f64], partials: &mut [f64])
-    requires output_enough { chunk.asked.rows * chunk.asked.dims ≤ length output.now }
-    requires partials_enough { let a = asked_in chunk.asked in chunk_count a * wide a * wide a ≤ length partials.old }
+pub fn sums_stage(asked: Asked, h: usize, output: &[f64], partials: &mut [f64])
+    requires asked_ready { AskedReady (asked_in asked) }
+    requires h_bound { (h < chunk_count (asked_in asked)) × (asked.rows * asked.dims ≤ length output.now)
+        × (chunk_count (asked_in asked) * wide (asked_in asked) * wide (asked_in asked) ≤ length partials.old) }
     ensures { (inverse v0 : List Float) (edge_columns : List ℕ) (edge_weights block0 block1 block2 : List Float) →
         lent_in inverse v0 edge_columns edge_weights block0 block1 block2 partials.new output.now
-        ≡ sums_work ieee64 (asked_in chunk.asked) chunk.number
+        ≡ sums_work ieee64 (asked_in asked) h
         (lent_in inverse v0 edge_columns edge_weights block0 block1 block2 partials.old output.now) }
 {
-    let asked = chunk.asked;
+    let n = asked.rows;
+    let d = asked.dims;
+    let k = d + 8;
     sums::sums_partial(
-        asked.rows,
-        asked.dims,
-        chunk.first(),
-        chunk.end(),
+        n,
+        d,
+        input::first_row(n, h),
+        input::end_row(n, h),
         output,
-        chunk.partial(),
+        h * (k * k),
         partials,
     );
 }
 
 // The same of the columns' squares.
-pub fn squares_stage(chunk: Chunk, output: &[f64], partials: &mut [f64])
-    requires output_enough { chunk.asked.rows * chunk.asked.dims ≤ length output.now }
-    requires partials_enough { let a = asked_in chunk.asked in chunk_count a * wide a * wide a ≤ length partials.old }
+pub fn squares_stage(asked: Asked, h: usize, output: &[f64], partials: &mut [f64])
+    requires asked_ready { AskedReady (asked_in asked) }
+    requires h_bound { (h < chunk_count (asked_in asked)) × (asked.rows * asked.dims ≤ length output.now)
+        × (chunk_count (asked_in asked) * wide (asked_in asked) * wide (asked_in asked) ≤ length partials.old) }
     ensures { (inverse v0 : List Float) (edge_columns : List ℕ) (edge_weights block0 block1 block2 : List Float) →
         lent_in inverse v0 edge_columns edge_weights block0 block1 block2 partials.new output.now
-        ≡ squares_work ieee64 (asked_in chunk.asked) chunk.number
+        ≡ squares_work ieee64 (asked_in asked) h
         (lent_in inverse v0 edge_columns edge_weights block0 block1 block2 partials.old output.now) }
 {
-    let asked = chunk.asked;
+    let n = asked.rows;
+    let d = asked.dims;
+    let k = d + 8;
     sums::squares_partial(
-        asked.rows,
-        asked.dims,
-        chunk.first(),
-        chunk.end(),
+        n,
+        d,
+        input::first_row(n, h),
+        input::end_row(n, h),
         output,
-        chunk.partial(),
+        h * (k * k),
         partials,
     );
 }
 
 // The means of the columns subtracted: `totals` has the columns' sums.
-pub fn centre_stage(chunk: Chunk, totals: &[f64; 225], output: &mut [f64])
-    requires dims_in_bounds { chunk.asked.rows * chunk.asked.dims ≤ length output.old }
+pub fn centre_stage(asked: Asked, totals: &[f64; 225], h: usize, output: &mut [f64])
+    requires asked_ready { AskedReady (asked_in asked) }
+    requires dims_in_bounds { asked.rows * asked.dims ≤ length output.old }
     ensures { (inverse v0 : List Float) (edge_columns : List ℕ) (edge_weights block0 block1 block2 partials : List Float) →
         lent_in inverse v0 edge_columns edge_weights block0 block1 block2 partials output.new
-        ≡ centre_work ieee64 (asked_in chunk.asked) totals.now chunk.number
+        ≡ centre_work ieee64 (asked_in asked) totals.now h
         (lent_in inverse v0 edge_columns edge_weights block0 block1 block2 partials output.old) }
 {
-    let asked = chunk.asked;
+    let n = asked.rows;
+    let d = asked.dims;
     columns::output::centre_chunk(
-        asked.rows,
-        asked.dims,
+        n,
+        d,
         totals,
-        chunk.first(),
-        chunk.end(),
+        input::first_row(n, h),
+        input::end_row(n, h),
         output,
     );
 }
 
 // The columns multiplied by their scales, which stand in `totals`.
-pub fn scale_stage(chunk: Chunk, totals: &[f64; 225], output: &mut [f64])
-    requires dims_in_bounds { chunk.asked.rows * chunk.asked.dims ≤ length output.old }
+pub fn scale_stage(asked: Asked, totals: &[f64; 225], h: usize, output: &mut [f64])
+    requires asked_ready { AskedReady (asked_in asked) }
+    requires dims_in_bounds { asked.rows * asked.dims ≤ length output.old }
     ensures { (inverse v0 : List Float) (edge_columns : List ℕ) (edge_weights block0 block1 block2 partials : List Float) →
         lent_in inverse v0 edge_columns edge_weights block0 block1 block2 partials output.new
-        ≡ scale_work ieee64 (asked_in chunk.asked) totals.now chunk.number
+        ≡ scale_work ieee64 (asked_in asked) totals.now h
         (lent_in inverse v0 edge_columns edge_weights block0 block1 block2 partials output.old) }
 {
-    let asked = chunk.asked;
+    let n = asked.rows;
+    let d = asked.dims;
     columns::output::scale_chunk(
-        asked.rows,
-        asked.dims,
+        n,
+        d,
         totals,
-        chunk.first(),
-        chunk.end(),
+        input::first_row(n, h),
+        input::end_row(n, h),
         output,
     );
 }

@@ -1,5 +1,4 @@
-use mathlib.Core.Path.{refl, sym, ◌∙◌}
-use mathlib.Core.Bool.{true, false}
+use mathlib.Core.Path.{sym}
 use native.Mathlib.Omega.{arith}
 use lib.Seq.{length-take-le}
 use Rattle.lines.proofs.Runs.{at_most, at_end}
@@ -11,12 +10,9 @@ use Rattle.lines.proofs.read_banner.Goals as goal
 pub slice_bounds-is_banner-end : goal.slice_bounds-is_banner-end
 slice_bounds-is_banner-end c = sym (length-take-le _ _ (omega (arith, c.line_end-end.ensures, at_most line_goes_on c.args.text.now 0 (omega arith))))
 
-pub returns-then-not-is_banner : goal.returns-then-not-is_banner
-returns-then-not-is_banner c = read_first _ _ _ c.line_end-end.ensures false refl (sym c.if-not-is_banner.true ∙ c.is_banner.ensures)
-
-pub next_line-requires : goal.next_line-requires
-next_line-requires c =
+pub next_line-next-requires : goal.next_line-next-requires
+next_line-next-requires c =
     (omega (arith, c.line_end-end.ensures, at_most line_goes_on c.args.text.now 0 (omega arith)), at_end line_goes_on c.args.text.now 0 _ c.line_end-end.ensures goes_nil)
 
 pub returns : goal.returns
-returns c = read_first _ _ _ c.line_end-end.ensures true c.next_line.ensures (sym c.if-not-is_banner.false ∙ c.is_banner.ensures)
+returns c = read_first _ _ _ _ c.line_end-end.ensures c.next_line-next.ensures c.is_banner-is_right.ensures

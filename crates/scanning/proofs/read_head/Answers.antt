@@ -2,10 +2,10 @@ use Rattle.scanning.proofs.Heads.{head-place, head-right, head-wrong}
 use Rattle.scanning.proofs.read_head.Goals as goal
 
 pub size_from-requires : goal.size_from-requires
-size_from-requires c = head-place _ _ c.in-Some.ensures
+size_from-requires c = head-place _ _ c.read_banner-banner.ensures c.if-banner.true
 
-pub returns-in-Some : goal.returns-in-Some
-returns-in-Some c = head-right _ _ c.in-Some.ensures _ c.size_from.ensures
+pub returns-then-banner : goal.returns-then-banner
+returns-then-banner c = head-right _ _ c.read_banner-banner.ensures c.if-banner.true _ c.size_from.ensures
 
-pub returns-in-None : goal.returns-in-None
-returns-in-None c = head-wrong _ c.in-None.ensures
+pub returns : goal.returns
+returns c = head-wrong _ _ c.read_banner-banner.ensures c.if-banner.false

@@ -5,9 +5,9 @@ use Rattle.stages.proofs.output.scale_stage.Goals as goal
 
 pub scale_chunk-requires : goal.scale_chunk-requires
 scale_chunk-requires c =
-    let r = c.args.chunk.asked_ready in
+    let r = c.requires.asked_ready in
     record {
-      span = span_of c.args.chunk.asked.rows c.args.chunk.number c.first.ensures c.end.ensures;
+      span = span_of c.args.asked.rows c.args.h c.first_row.ensures c.end_row.ensures;
       some = r.dims-least;
       few = r.dims-most;
       enough = c.requires.dims_in_bounds;
@@ -15,7 +15,7 @@ scale_chunk-requires c =
 
 pub returns : goal.returns
 returns c =
-    let a = asked_in c.args.chunk.asked in
+    let a = asked_in c.args.asked in
     λ inverse v0 edge_columns edge_weights block0 block1 block2 partials.
-    output-written a c.args.chunk.number (lent_in inverse v0 edge_columns edge_weights block0 block1 block2 partials c.args.output.now)
-    c.first.ensures c.end.ensures _ c.args.chunk.asked_ready.dims-least c.scale_chunk.ensures
+    output-written a c.args.h (lent_in inverse v0 edge_columns edge_weights block0 block1 block2 partials c.args.output.now)
+    c.first_row.ensures c.end_row.ensures _ c.requires.asked_ready.dims-least c.scale_chunk.ensures
