@@ -151,12 +151,15 @@ fn kind_of(line: &[u8]) -> Kind
 
 // ---- where a line ends
 
-// Whether the line goes on at i: the text does, and neither a newline stands there, nor a carriage return and a newline.
+// Whether the line goes on at i: the text does, and neither a newline stands there, nor a carriage return and a newline. Most bytes are above both.
 fn line_goes_on(text: &[u8], i: usize) -> bool
     ensures { result ≡ line_goes_on (drop i text.now) }
 {
     if text.len() <= i {
         return false;
+    }
+    if b'\r' < text[i] {
+        return true;
     }
     match text[i] {
         b'\n' => false,

@@ -1,13 +1,19 @@
 -- The tests of limits and of room, way by way. Assumes nothing.
-use mathlib.Core.Path.{◌≡◌, refl, sym, ap, ◌∙◌}
+use mathlib.Core.Path.{◌≡◌, refl, ap, ◌∙◌}
 use Prim.Native.Nat.{ℕ, ◌+◌, ◌*◌, ◌≤◌, ◌<◌, min}
 use native.Mathlib.Nat.{add-zero}
 use native.Mathlib.Omega.{arith}
 use borrow.Author.Tests.{eq-eqb, ne_eqb, lt-ltb, le-ltb}
+use Rattle.std.specs.Prelude.{Result, Ok, Err, IsErrAnd}
 use Rattle.definition.specs.Numbers.{rows_most, entries_most}
 use Rattle.definition.specs.Refusals.{Verdict, accepted, refused, or_else, first_from}
 use Rattle.definition.proofs.Fill.{split, same_or}
+use Rattle.input.specs.declared.refusal.Refusal.{Refusal}
+use Rattle.input.specs.Said.{refusal_of}
+use Rattle.input.proofs.Verdicts.{numbered, passed}
 use Rattle.matrix_market.specs.Outcome.{test_limits, test_room, room, room_for}
+use Rattle.matrix_market.specs.Said.{room_in}
+use Rattle.matrix_market.specs.declared.Lengths.{Lengths}
 
 module _ (n m : ℕ) where
   pub no_rows : n ≡ 0 → test_limits n m ≡ refused 2 0
@@ -72,20 +78,20 @@ room_of_lem n m starts columns values h =
 
 -- ---- the sizes that a host is told
 
-module _ (n m : ℕ) (v : Verdict) (is : v ≡ test_limits n (m + 0)) where
-  same_limits : v ≡ test_limits n m
+-- t is what the code's test found
+module _ (n m : ℕ) {t : Verdict} (is : t ≡ test_limits n (m + 0)) where
+  same_limits : t ≡ test_limits n m
   same_limits = is ∙ ap (test_limits n) (add-zero m)
 
-  pub sizes_refused : (v.number ≡ 0 → ⊥) → room v 0 0 ≡ room_for n m
+module _ (n m : ℕ) where
+  pub sizes_refused : (r : Result Lengths Refusal) (d : Refusal) → IsErrAnd r (λ e. e ≡ d) → refusal_of d ≡ test_limits n (m + 0) → room_in r ≡ room_for n m
   unfolding room_for
-  sizes_refused h = rw (← same_limits, ne_eqb v.number 0 h) refl
+  sizes_refused (Ok x) d h is = absurd h
+  sizes_refused (Err e) d h is = rw (h, ← same_limits n m is, ne_eqb (refusal_of d).number 0 (numbered d)) refl
 
-  pub sizes_kept : v.number ≡ 0 → Kept n m
-  sizes_kept h = kept_of n m (ap (λ (x : Verdict). x.number) (sym same_limits) ∙ h)
+  pub sizes_kept : accepted ≡ test_limits n (m + 0) → Kept n m
+  sizes_kept is = kept_of n m (passed (same_limits n m is))
 
-  pub sizes_told : v.number ≡ 0 → (e : ℕ) → e ≡ min (2 * m) entries_most → room v (n + 1) e ≡ room_for n m
+  pub sizes_told : accepted ≡ test_limits n (m + 0) → (e : ℕ) → e ≡ min (2 * m) entries_most → room accepted (n + 1) e ≡ room_for n m
   unfolding room_for
-  sizes_told h e p =
-      let k = sizes_kept h in
-      let all = limits_kept n m k.some k.rows k.entries in
-      rw (all, same_limits ∙ all, p) refl
+  sizes_told is e p = rw (← same_limits n m is, p) refl

@@ -1,21 +1,26 @@
 -- The crate's own types as the definitions have them, and what its inner functions ask and answer. Definitions only.
 use Rattle.std.specs.Prelude.{List, [], ◌≡◌, ℕ, ◌+◌, ◌≤◌, Result, Ok, Err, Float, length}
 use Rattle.definition.specs.Numbers.{rows_most, entries_most}
-use Rattle.input.specs.Said.{verdict_of}
+use Rattle.definition.specs.Refusals.{accepted}
+use Rattle.input.specs.declared.refusal.Refusal.{Refusal}
+use Rattle.input.specs.Said.{refusal_of}
 use Rattle.lines.specs.Kinds.{kinds_at}
 use Rattle.market.specs.Market.{Entry, Read, market, fault, body}
 use Rattle.market.specs.Graph.{placed_of, with_starts, with_columns, with_values}
 use Rattle.market.specs.Passes.{entries_in}
 use Rattle.matrix_market.specs.Outcome.{Outcome, outcome, Room, room}
-use Rattle.matrix_market.specs.declared.MarketRead.{MarketRead}
-use Rattle.matrix_market.specs.declared.MarketSizes.{MarketSizes}
+use Rattle.matrix_market.specs.declared.Lengths.{Lengths}
+use Rattle.matrix_market.specs.declared.Size.{Size}
 use Rattle.matrix_market.specs.declared.Tested.{Tested}
 
-abbrev pub outcome_in : MarketRead → List ℕ → List ℕ → List Float → Outcome
-outcome_in r starts columns values = outcome (verdict_of r.verdict) r.rows r.entries starts columns values
+-- what the readers answer, with the lent lists; zeros with a refusal
+abbrev pub outcome_in : Result Size Refusal → List ℕ → List ℕ → List Float → Outcome
+outcome_in (Ok s) starts columns values = outcome accepted s.rows s.entries starts columns values
+outcome_in (Err r) starts columns values = outcome (refusal_of r) 0 0 starts columns values
 
-abbrev pub room_in : MarketSizes → Room
-room_in r = room (verdict_of r.verdict) r.starts r.entries
+abbrev pub room_in : Result Lengths Refusal → Room
+room_in (Ok l) = room accepted l.starts l.entries
+room_in (Err r) = room (refusal_of r) 0 0
 
 -- the entries behind the size line, which ends before `at`
 abbrev pub entries_at : List ℕ → ℕ → List Entry

@@ -4,7 +4,7 @@
 ghost use Rattle.std.specs.Prelude.{◌≡◌, true, [], ℕ, ◌+◌, ◌*◌, ◌≤◌, min, length};
 ghost use Rattle.definition.specs.Memory.{fill_range};
 ghost use Rattle.definition.specs.Numbers.{rows_most, entries_most};
-ghost use Rattle.input.specs.Said.{verdict_of};
+ghost use Rattle.input.specs.Said.{verdict_in};
 ghost use Rattle.lines.specs.Lines.{lines_of};
 ghost use Rattle.lines.specs.Kinds.{kinds_at};
 ghost use Rattle.market.specs.Market.{market, read_market, head_of, body};
@@ -14,22 +14,18 @@ ghost use Rattle.scanning.specs.Said.{Place};
 ghost use Rattle.matrix_market.specs.Outcome.{outcome_of, room_of, room_for, test_limits, test_room};
 ghost use Rattle.matrix_market.specs.Said.{outcome_in, room_in, entries_at, Tests, Counted, Ready, Placed};
 
-use input::{SpectralParams, Verdict};
+use input::{Refusal, SpectralParams};
 
-// A refusal, or none, with the rows and the entries as placed; zeros with a refusal. A record and no Result: the C interface has it so.
-#[repr(C)]
-#[derive(Drop)]
-pub struct MarketRead {
-    pub verdict: Verdict,
+// The rows, and the entries as placed, of a graph that was read.
+#[derive(Clone, Copy)]
+pub struct Size {
     pub rows: usize,
     pub entries: usize,
 }
 
-// How long the lists must at most be for a file: starts, and columns and values each; zeros with a refusal. The C interface has it so too.
-#[repr(C)]
-#[derive(Drop)]
-pub struct MarketSizes {
-    pub verdict: Verdict,
+// How long the lists must at most be for a file: starts, and columns and values each.
+#[derive(Clone, Copy)]
+pub struct Lengths {
     pub starts: usize,
     pub entries: usize,
 }
@@ -89,58 +85,47 @@ fn test_text(text: &[u8]) -> Result<Tested, u64>
 
 // ---- the sizes
 
-fn verdict(number: u64, place: u64) -> Verdict
-    ensures { result ≡ record { number = number; place = place } }
-{
-    Verdict { number, place }
-}
-
-// Zeros, with a refusal.
-fn refused(verdict: Verdict) -> MarketRead
-    ensures { result ≡ record { verdict = verdict; rows = 0; entries = 0 } }
-{
-    MarketRead {
-        verdict,
-        rows: 0,
-        entries: 0,
-    }
-}
-
 // 2 for no rows, 3 for too many of either. The entries as placed are summed where that cannot overflow.
-fn test_limits(n: usize, entries: usize, doubles: usize) -> Verdict
+fn test_limits(n: usize, entries: usize, doubles: usize) -> Result<(), Refusal>
     requires { doubles ≤ entries }
-    ensures { verdict_of result ≡ test_limits n (entries + doubles) }
+    ensures { verdict_in result ≡ test_limits n (entries + doubles) }
 {
     if n == 0 {
-        return verdict(2, 0);
+        return Err(Refusal::Rows);
     }
     if SpectralParams::ROWS_MOST < n {
-        return verdict(3, 0);
+        return Err(Refusal::Limits);
     }
     if SpectralParams::ENTRIES_MOST < entries {
-        return verdict(3, 0);
+        return Err(Refusal::Limits);
     }
     if SpectralParams::ENTRIES_MOST < entries + doubles {
-        return verdict(3, 0);
+        return Err(Refusal::Limits);
     }
-    verdict(0, 0)
+    Ok(())
 }
 
 // 11 with the first list that is too short.
-fn test_room(n: usize, placed: usize, starts: usize, columns: usize, values: usize) -> Verdict
+fn test_room(
+    n: usize,
+    placed: usize,
+    starts: usize,
+    columns: usize,
+    values: usize,
+) -> Result<(), Refusal>
     requires { n ≤ rows_most }
-    ensures { verdict_of result ≡ test_room n placed starts columns values }
+    ensures { verdict_in result ≡ test_room n placed starts columns values }
 {
     if starts < n + 1 {
-        return verdict(11, 0);
+        return Err(Refusal::Memory(0));
     }
     if columns < placed {
-        return verdict(11, 1);
+        return Err(Refusal::Memory(1));
     }
     if values < placed {
-        return verdict(11, 2);
+        return Err(Refusal::Memory(2));
     }
-    verdict(0, 0)
+    Ok(())
 }
 
 // ---- the graph
@@ -183,26 +168,19 @@ fn read_right(
     starts: &mut [u64],
     columns: &mut [u32],
     values: &mut [f64],
-) -> MarketRead
+) -> Result<Size, Refusal>
     requires { Counted text.now n from entries doubles }
     ensures { outcome_in result starts.new columns.new values.new
         ≡ outcome_of (market n (entries_at text.now from)) starts.old columns.old values.old }
 {
-    let limits = test_limits(n, entries, doubles);
-    if limits.number != 0 {
-        return refused(limits);
-    }
+    test_limits(n, entries, doubles)?;
     let placed = entries + doubles;
-    let room = test_room(n, placed, starts.len(), columns.len(), values.len());
-    if room.number != 0 {
-        return refused(room);
-    }
+    test_room(n, placed, starts.len(), columns.len(), values.len())?;
     place_graph(text, from, n, placed, starts, columns, values);
-    MarketRead {
-        verdict: room,
+    Ok(Size {
         rows: n,
         entries: placed,
-    }
+    })
 }
 
 // The graph of a Matrix Market file (coordinate, pattern, symmetric), in front of the lent lists. With a refusal every lent number stays.
@@ -211,7 +189,7 @@ pub fn read_matrix_market(
     starts: &mut [u64],
     columns: &mut [u32],
     values: &mut [f64],
-) -> MarketRead
+) -> Result<Size, Refusal>
     ensures { outcome_in result starts.new columns.new values.new
         ≡ outcome_of (read_market text.now) starts.old columns.old values.old }
 {
@@ -226,7 +204,7 @@ pub fn read_matrix_market(
             columns,
             values,
         ),
-        Err(line) => refused(verdict(19, line)),
+        Err(line) => Err(Refusal::Market(line)),
     }
 }
 
@@ -243,36 +221,22 @@ fn doubled(entries: usize) -> usize
     2 * entries
 }
 
-fn no_sizes(verdict: Verdict) -> MarketSizes
-    ensures { result ≡ record { verdict = verdict; starts = 0; entries = 0 } }
-{
-    MarketSizes {
-        verdict,
-        starts: 0,
-        entries: 0,
-    }
-}
-
-fn sizes_of(n: usize, m: usize) -> MarketSizes
+fn sizes_of(n: usize, m: usize) -> Result<Lengths, Refusal>
     ensures { room_in result ≡ room_for n m }
 {
-    let limits = test_limits(n, m, 0);
-    if limits.number != 0 {
-        return no_sizes(limits);
-    }
-    MarketSizes {
-        verdict: limits,
+    test_limits(n, m, 0)?;
+    Ok(Lengths {
         starts: n + 1,
         entries: doubled(m),
-    }
+    })
 }
 
 // How much room suffices, by the size line; nothing behind it is read.
-pub fn matrix_market_sizes(text: &[u8]) -> MarketSizes
+pub fn matrix_market_sizes(text: &[u8]) -> Result<Lengths, Refusal>
     ensures { room_in result ≡ room_of (head_of (lines_of text.now)) }
 {
     match scanning::read_head(text) {
         Ok(head) => sizes_of(head.n as usize, head.m as usize),
-        Err(line) => no_sizes(verdict(19, line)),
+        Err(line) => Err(Refusal::Market(line)),
     }
 }

@@ -8,44 +8,41 @@ use borrow.Author.Tests.{lt-ltb, le-ltb, ltb-false, eq-eqb, ne_eqb, eqb-true, eq
 use lib.Dec.{eqb, ltb}
 use lib.Ieee.{Float, nan}
 use lib.ListN.{length, get_or, length-append}
+use Rattle.std.specs.Prelude.{Result, Ok, Err, IsOk}
 use Rattle.definition.specs.Numbers.{dims_most}
 use Rattle.definition.specs.Refusals.{Verdict, accepted, refused, given, test_dims}
 use Rattle.definition.specs.SpectralEmbedding.{Counts}
 use Rattle.digits.specs.Placed.{put}
+use Rattle.input.specs.declared.refusal.Refusal.{Refusal}
 use Rattle.input.proofs.Accepted.{no-fault, both_pass, dims_valid}
-use Rattle.input.proofs.Verdicts.{refuses, goes_on_lem, faulty, faultless, faulty_first, faultless_first}
+use Rattle.input.proofs.Verdicts.{numbered, goes_on_lem, faulty, faultless, faulty_first, faultless_first}
 use Rattle.printing.specs.Printed.{answer_name, at_name, refusal_text, head_text, rows_text, seed_text, room}
 use Rattle.printing.specs.Answer.{rows_most, test_seed, test_printed, answer_text, test_answer}
-use Rattle.printing.specs.Room.{length_by, bytes_by, Leaves}
+use Rattle.printing.specs.Room.{length_by, bytes_by, judged_in, length_in, Leaves}
 use Rattle.printing.proofs.Leaving.{room-enough}
 use Rattle.printing.proofs.Texts.{pair_most, head-most, rows-most}
 
 -- ---- the seed's tests, one after the other
-module _ (d n numbers : ℕ) {dims : Verdict} (e : dims ≡ test_dims d) where
-  pub bad_dims : (dims.number ≡ 0 → ⊥) → dims ≡ test_seed d n numbers
+module _ (d n numbers : ℕ) {dims : Verdict} (e : dims ≡ test_dims d) (z : dims.number ≡ 0) where
+  pub no_rows : n ≡ 0 → refused 2 0 ≡ test_seed d n numbers
   unfolding test_seed
-  bad_dims f = refuses e _ f
+  no_rows h = goes_on_lem e z (faulty_first (eqb n 0) 1 0 _ (eq-eqb n 0 h) refl)
 
-  module _ (z : dims.number ≡ 0) where
-    pub no_rows : n ≡ 0 → refused 2 0 ≡ test_seed d n numbers
+  pub many_rows : rows_most < n → refused 17 0 ≡ test_seed d n numbers
+  unfolding test_seed
+  many_rows h =
+      goes_on_lem e z (faultless_first (eqb n 0) 2 0 (ne_eqb n 0 (omega arith)) (faulty_first (ltb rows_most n) 16 0 _ (lt-ltb rows_most n h) refl))
+
+  module _ (some : n ≡ 0 → ⊥) (few : n ≤ rows_most) where
+    short_left : {v : Verdict} → v ≡ given (ltb numbers (n * d)) 11 9 → v ≡ test_seed d n numbers
     unfolding test_seed
-    no_rows h = goes_on_lem e z (faulty_first (eqb n 0) 1 0 _ (eq-eqb n 0 h) refl)
+    short_left g = goes_on_lem e z (faultless_first (eqb n 0) 2 0 (ne_eqb n 0 some) (faultless_first (ltb rows_most n) 17 0 (le-ltb rows_most n few) g))
 
-    pub many_rows : rows_most < n → refused 17 0 ≡ test_seed d n numbers
-    unfolding test_seed
-    many_rows h =
-        goes_on_lem e z (faultless_first (eqb n 0) 2 0 (ne_eqb n 0 (omega arith)) (faulty_first (ltb rows_most n) 16 0 _ (lt-ltb rows_most n h) refl))
+    pub short-seed : numbers < n * d → refused 11 9 ≡ test_seed d n numbers
+    short-seed h = short_left (faulty (ltb numbers (n * d)) 10 9 (lt-ltb numbers (n * d) h) refl)
 
-    module _ (some : n ≡ 0 → ⊥) (few : n ≤ rows_most) where
-      short_left : {v : Verdict} → v ≡ given (ltb numbers (n * d)) 11 9 → v ≡ test_seed d n numbers
-      unfolding test_seed
-      short_left g = goes_on_lem e z (faultless_first (eqb n 0) 2 0 (ne_eqb n 0 some) (faultless_first (ltb rows_most n) 17 0 (le-ltb rows_most n few) g))
-
-      pub short-seed : numbers < n * d → refused 11 9 ≡ test_seed d n numbers
-      short-seed h = short_left (faulty (ltb numbers (n * d)) 10 9 (lt-ltb numbers (n * d) h) refl)
-
-      pub right-seed : n * d ≤ numbers → accepted ≡ test_seed d n numbers
-      right-seed h = short_left (faultless (ltb numbers (n * d)) 11 9 (le-ltb numbers (n * d) h) refl)
+    pub right-seed : n * d ≤ numbers → accepted ≡ test_seed d n numbers
+    right-seed h = short_left (faultless (ltb numbers (n * d)) 11 9 (le-ltb numbers (n * d) h) refl)
 
 -- a seed that passes
 pub record Printable (d n numbers : ℕ) : Type 0 where
@@ -112,13 +109,21 @@ module _ (v : Verdict) (d n : ℕ) where
             omega (arith, ap length (refusal-says (eqb-false v.number 0 e)), pair_most answer_name v.number at_name v.place)
 
     -- so that where there is room for every text it is never refused
-    pub answer_left : (out : List ℕ) {verdict : Verdict} {count : ℕ} {after : List ℕ} → (test_printed v d n (length seed)).number ≡ 0 → room ≤ length out
-        → Leaves (test_answer v d n counts seed out) (answer_text v d n counts seed) out verdict count after
+    never_refused : (out : List ℕ) → (test_printed v d n (length seed)).number ≡ 0 → room ≤ length out → test_answer v d n counts seed out ≡ accepted
+    unfolding test_answer
+    never_refused out h l = sym (goes_on_lem refl h (sym (room-enough (answer_text v d n counts seed) out (omega (arith, answer_fits h)))))
+
+    -- w is what the writer answered
+    pub answer-written : (out : List ℕ) (w : Result ℕ Refusal) {after : List ℕ} → (test_printed v d n (length seed)).number ≡ 0 → room ≤ length out
+        → Leaves (test_answer v d n counts seed out) (answer_text v d n counts seed) out (judged_in w) (length_in w) after → IsOk w
+    answer-written out (Ok count) h l left = refl
+    answer-written out (Err r) h l left = absurd (numbered r (ap (λ (t : Verdict). t.number) (left.judged ∙ never_refused out h l)))
+
+    pub answer_left : (out : List ℕ) {w : Result ℕ Refusal} {count : ℕ} {after : List ℕ} → w ≡ Ok count → (test_printed v d n (length seed)).number ≡ 0 → room ≤ length out
+        → Leaves (test_answer v d n counts seed out) (answer_text v d n counts seed) out (judged_in w) (length_in w) after
         → (count ≡ length (answer_text v d n counts seed)) × (count ≤ room) × (after ≡ put (answer_text v d n counts seed) 0 out)
-    unfolding test_answer length_by bytes_by
-    answer_left out h l left =
+    unfolding length_by bytes_by
+    answer_left out is h l left =
         let text = answer_text v d n counts seed in
-        let fits = answer_fits h in
-        let passed : test_answer v d n counts seed out ≡ accepted = sym (goes_on_lem refl h (sym (room-enough text out (omega (arith, fits))))) in
-        let whole = left.counted ∙ ap (λ (t : Verdict). length_by t text) passed in
-        (whole, omega (arith, whole, fits), left.bytes ∙ ap (λ (t : Verdict). bytes_by t text out) passed)
+        let whole = sym (ap length_in is) ∙ left.counted ∙ ap (λ (t : Verdict). length_by t text) (never_refused out h l) in
+        (whole, omega (arith, whole, answer_fits h), left.bytes ∙ ap (λ (t : Verdict). bytes_by t text out) (never_refused out h l))

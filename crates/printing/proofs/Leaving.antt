@@ -8,28 +8,29 @@ use native.Mathlib.Omega.{arith}
 use borrow.Author.Tests.{lt-ltb, le-ltb, ne_eqb}
 use lib.ListN.{length, take, drop}
 use lib.Seq.{take_at}
+use Rattle.std.specs.Prelude.{Result, Ok, Err, IsErrAnd}
 use Rattle.definition.specs.Refusals.{Verdict, accepted, refused, given, or_else}
 use Rattle.digits.specs.Placed.{put}
 use Rattle.input.proofs.Accepted.{both_pass}
-use Rattle.input.proofs.Verdicts.{refuses, goes_on_lem}
+use Rattle.input.specs.declared.refusal.Refusal.{Refusal}
+use Rattle.input.specs.Said.{refusal_of}
+use Rattle.input.proofs.Verdicts.{refuses, numbered, goes_past}
 use Rattle.printing.specs.Printed.{room}
-use Rattle.printing.specs.Room.{test_room, length_by, bytes_by, Leaves}
+use Rattle.printing.specs.Room.{test_room, length_by, bytes_by, judged_in, length_in, Leaves}
 use Rattle.printing.proofs.Putting.{Put}
 
 -- by a verdict: all of the text, or nothing
-pub leaves_text : (text out : List ℕ) {verdict : Verdict} {count : ℕ} {after : List ℕ} → verdict ≡ accepted → Put text 0 out count after
-    → Leaves accepted text out verdict count after
+pub leaves_text : (text out : List ℕ) {count : ℕ} {after : List ℕ} → Put text 0 out count after → Leaves accepted text out accepted count after
 unfolding length_by bytes_by
-leaves_text text out e p = record { judged = e; counted = p.0 ∙ zero-add (length text); bytes = p.1 }
+leaves_text text out p = record { judged = refl; counted = p.0 ∙ zero-add (length text); bytes = p.1 }
 
-pub leaves_nothing : (v : Verdict) (text out : List ℕ) {verdict : Verdict} {count : ℕ} → verdict ≡ v → (v.number ≡ 0 → ⊥) → count ≡ 0
-    → Leaves v text out verdict count out
+pub leaves_nothing : (v : Verdict) (text out : List ℕ) {verdict : Verdict} → verdict ≡ v → (v.number ≡ 0 → ⊥) → Leaves v text out verdict 0 out
 unfolding length_by bytes_by
-leaves_nothing v text out e f z =
+leaves_nothing v text out e f =
     let no = ne_eqb v.number 0 f in
     record {
       judged = e;
-      counted = z ∙ sym (ap (λ (b : Bool). cond b (length text) 0) no);
+      counted = sym (ap (λ (b : Bool). cond b (length text) 0) no);
       bytes = sym (ap (λ (b : Bool). cond b (put text 0 out) out) no);
     }
 
@@ -43,29 +44,29 @@ unfolding test_room
 room-short text out h = ap (λ (b : Bool). given b 18 0) (lt-ltb (length out) (length text) h)
 
 -- into lent bytes: all of the text where it fits, and else nothing
-pub leaves_room : (text out : List ℕ) {verdict : Verdict} {count : ℕ} {after : List ℕ} → length text ≤ length out → verdict ≡ accepted
-    → Put text 0 out count after → Leaves (test_room text out) text out verdict count after
-leaves_room text out {verdict} {count} {after} h e p =
-    subst (λ (v : Verdict). Leaves v text out verdict count after) (sym (room-enough text out h)) (leaves_text text out e p)
+pub leaves_room : (text out : List ℕ) {count : ℕ} {after : List ℕ} → length text ≤ length out → Put text 0 out count after
+    → Leaves (test_room text out) text out accepted count after
+leaves_room text out {count} {after} h p =
+    subst (λ (v : Verdict). Leaves v text out accepted count after) (sym (room-enough text out h)) (leaves_text text out p)
 
-pub leaves_short : (text out : List ℕ) {verdict : Verdict} {count : ℕ} → length out < length text → verdict ≡ refused 18 0 → count ≡ 0
-    → Leaves (test_room text out) text out verdict count out
-leaves_short text out {verdict} {count} h e z =
-    subst (λ (v : Verdict). Leaves v text out verdict count out) (sym (room-short text out h))
-    (leaves_nothing (refused 18 0) text out e (λ x. absurd (omega arith)) z)
+pub leaves_short : (text out : List ℕ) → length out < length text → Leaves (test_room text out) text out (refused 18 0) 0 out
+leaves_short text out h =
+    subst (λ (v : Verdict). Leaves v text out (refused 18 0) 0 out) (sym (room-short text out h))
+    (leaves_nothing (refused 18 0) text out refl (λ x. absurd (omega arith)))
 
 -- ---- tests that stand before the room's: where they refuse nothing is left, and where they pass the room decides
 module _ (t : Verdict) (text out : List ℕ) where
-  pub leaves_refused : {tested verdict : Verdict} {count : ℕ} → tested ≡ t → (tested.number ≡ 0 → ⊥) → verdict ≡ tested → count ≡ 0
-      → Leaves (or_else t (test_room text out)) text out verdict count out
-  leaves_refused e f s z =
-      leaves_nothing (or_else t (test_room text out)) text out (s ∙ refuses e _ f)
-      (λ x. f (ap (λ (v : Verdict). v.number) e ∙ (both_pass t (test_room text out) x).0)) z
+  pub leaves_refused : (r : Result ℕ Refusal) (d : Refusal) → IsErrAnd r (λ e. e ≡ d) → refusal_of d ≡ t
+      → Leaves (or_else t (test_room text out)) text out (judged_in r) (length_in r) out
+  leaves_refused (Ok n) d h e = absurd h
+  leaves_refused (Err x) d h e =
+      leaves_nothing (or_else t (test_room text out)) text out (ap refusal_of h ∙ refuses e _ (numbered d))
+      (λ z. numbered d (ap (λ (v : Verdict). v.number) e ∙ (both_pass t (test_room text out) z).0))
 
-  pub leaves_tested : {tested verdict : Verdict} {part : List ℕ} {count : ℕ} {after : List ℕ} → tested ≡ t → tested.number ≡ 0 → part ≡ text
+  pub leaves_tested : {verdict : Verdict} {part : List ℕ} {count : ℕ} {after : List ℕ} → accepted ≡ t → part ≡ text
       → Leaves (test_room part out) part out verdict count after → Leaves (or_else t (test_room text out)) text out verdict count after
-  leaves_tested {tested} {verdict} {part} {count} {after} e z same l =
-      subst (λ (v : Verdict). Leaves v text out verdict count after) (goes_on_lem e z refl)
+  leaves_tested {verdict} {part} {count} {after} e same l =
+      subst (λ (v : Verdict). Leaves v text out verdict count after) (goes_past e refl)
       (subst (λ (p : List ℕ). Leaves (test_room p out) p out verdict count after) same l)
 
 -- a text that was put from the first byte on is the part up to its end

@@ -1,46 +1,44 @@
 // What the text program prints, into text that a host lends: all of it, or a refusal and nothing. Asks for nothing.
 ghost use Rattle.std.specs.Prelude.{◌≡◌, ◌≤◌, length};
 ghost use Rattle.digits.specs.Placed.{put};
-ghost use Rattle.input.specs.Said.{verdict_of};
+ghost use Rattle.input.specs.Said.{verdict_of, verdict_in};
 ghost use Rattle.state.specs.Said.{counts_in};
 ghost use Rattle.printing.specs.Printed.{room};
-ghost use Rattle.printing.specs.Room.{Leaves};
+ghost use Rattle.printing.specs.Room.{judged_in, length_in, Leaves};
 ghost use Rattle.printing.specs.Answer.{test_seed, test_printed, test_answer, answer_text};
 
-use crate::room::{deliver, refused, verdict};
-use crate::{WrittenText, print_refusal, print_seed};
-use input::Verdict;
+use crate::room::deliver;
+use crate::{print_refusal, print_seed};
+use input::{Refusal, Verdict};
 use state::Counts;
 
 // The program's rows.
 const ROWS_MOST: usize = 64;
 
 // 1, 2, 17 and 11: what is asked of a seed that is printed.
-fn test_seed(d: u64, n: usize, numbers: usize) -> Verdict
-    ensures { verdict_of result ≡ test_seed d n numbers }
+fn test_seed(d: u64, n: usize, numbers: usize) -> Result<(), Refusal>
+    ensures { verdict_in result ≡ test_seed d n numbers }
 {
-    let dims = Verdict::from(input::test_dims(d));
-    if dims.number != 0 {
-        return dims;
-    }
+    input::test_dims(d)?;
     if n == 0 {
-        return verdict(2, 0);
+        return Err(Refusal::Rows);
     }
     if ROWS_MOST < n {
-        return verdict(17, 0);
+        return Err(Refusal::File(0));
     }
     if numbers < n * d as usize {
-        return verdict(11, 9);
+        return Err(Refusal::Memory(9));
     }
-    verdict(0, 0)
+    Ok(())
 }
 
-// A refusal is printed whatever D, n and the seed are.
-fn test_printed(asked: Verdict, d: u64, n: usize, numbers: usize) -> Verdict
-    ensures { verdict_of result ≡ test_printed (verdict_of asked) d n numbers }
+// A refusal is printed whatever D, n and the seed are. Here and below it is a `Verdict`, as C hands any number and place to be printed
+// (`threshcinch_write_answer`), more than a `Refusal` names.
+fn test_printed(asked: Verdict, d: u64, n: usize, numbers: usize) -> Result<(), Refusal>
+    ensures { verdict_in result ≡ test_printed (verdict_of asked) d n numbers }
 {
     if asked.number != 0 {
-        return verdict(0, 0);
+        return Ok(());
     }
     test_seed(d, n, numbers)
 }
@@ -64,7 +62,7 @@ fn print_answer(
     print_seed(n, d as usize, counts, seed, out)
 }
 
-// What the text program prints: the refusal, or the counts and the seed of n rows, where row i has its d numbers from i x d on.
+// What the text program prints: the refusal, or the counts and the seed of n rows, where row i has its d numbers from i x d on. Its length.
 pub fn write_answer(
     verdict: Verdict,
     d: u64,
@@ -72,14 +70,11 @@ pub fn write_answer(
     counts: Counts,
     seed: &[f64],
     out: &mut [u8],
-) -> WrittenText
+) -> Result<usize, Refusal>
     ensures { Leaves (test_answer (verdict_of verdict) d n (counts_in counts) seed.now out.old)
-        (answer_text (verdict_of verdict) d n (counts_in counts) seed.now) out.old (verdict_of result.verdict) result.length out.new }
+        (answer_text (verdict_of verdict) d n (counts_in counts) seed.now) out.old (judged_in result) (length_in result) out.new }
 {
-    let tested = test_printed(verdict, d, n, seed.len());
-    if tested.number != 0 {
-        return refused(tested);
-    }
+    test_printed(verdict, d, n, seed.len())?;
     let mut text = [0u8; 8192];
     let end = print_answer(verdict, d, n, counts, seed, &mut text);
     deliver(&text[..end], out)

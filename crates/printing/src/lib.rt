@@ -1,7 +1,7 @@
 // What the text program prints: a refusal, or the counts and the seed.
 //
-// A function here writes from a place on, where it is told that there is room, and answers the place behind what it wrote. Those of
-// `room` and `write_answer` ask for nothing: they answer a verdict and a length.
+// A function here writes from a place on, where it is told that there is room, and answers the place behind what it wrote. `deliver` and
+// `write_answer` ask for nothing: they answer the length that they wrote from the first byte on, or a refusal.
 #![tactic(auto)]
 
 ghost use Rattle.std.specs.Prelude.{◌≡◌, ◌++◌, ◌*◌, ◌+◌, ◌≤◌, length, get_or};
@@ -11,22 +11,13 @@ ghost use Rattle.digits.specs.Placed.{put};
 ghost use Rattle.state.specs.Said.{counts_in};
 ghost use Rattle.printing.specs.Printed.{labelled, refusal_text, head_text, bits_text, number_text, numbers_text, row_text, rows_text, seed_text, room};
 
-use input::Verdict;
 use state::Counts;
 
 mod answer; // the whole answer, by its verdict
 mod room; // into text that a host lends
 
 pub use answer::write_answer;
-pub use room::{deliver, refused, verdict};
-
-// What a writer of a whole text answers: how many bytes it wrote from the first one on, 0 with a refusal.
-#[repr(C)]
-#[derive(Drop)]
-pub struct WrittenText {
-    pub verdict: Verdict,
-    pub length: usize,
-}
+pub use room::deliver;
 
 // The bits of a number, a NaN always with the same ones.
 pub fn bits_of(x: f64) -> u64

@@ -1,36 +1,15 @@
 // Into text that a host lends: a whole text, or a refusal and nothing.
-ghost use Rattle.std.specs.Prelude.{◌≡◌};
-ghost use Rattle.definition.specs.Refusals as refusals;
-ghost use Rattle.input.specs.Said.{verdict_of};
-ghost use Rattle.printing.specs.Room.{test_room, Leaves};
+ghost use Rattle.printing.specs.Room.{test_room, judged_in, length_in, Leaves};
 
-use crate::{WrittenText, put_text};
-use input::Verdict;
+use crate::put_text;
+use input::Refusal;
 
-// Number 0 is no refusal.
-pub fn verdict(number: u64, place: u64) -> Verdict
-    ensures { verdict_of result ≡ refusals.refused number place }
-{
-    Verdict { number, place }
-}
-
-// A refusal: nothing was written.
-pub fn refused(verdict: Verdict) -> WrittenText
-    ensures { (verdict_of result.verdict ≡ verdict_of verdict) × (result.length ≡ 0) }
-{
-    WrittenText { verdict, length: 0 }
-}
-
-// A text into lent bytes, from the first one on; 18 where they are too few.
-pub fn deliver(text: &[u8], out: &mut [u8]) -> WrittenText
-    ensures { Leaves (test_room text.now out.old) text.now out.old (verdict_of result.verdict) result.length out.new }
+// A text into lent bytes, from the first one on, and its length; 18 where they are too few.
+pub fn deliver(text: &[u8], out: &mut [u8]) -> Result<usize, Refusal>
+    ensures { Leaves (test_room text.now out.old) text.now out.old (judged_in result) (length_in result) out.new }
 {
     if out.len() < text.len() {
-        return refused(verdict(18, 0));
+        return Err(Refusal::Room);
     }
-    let length = put_text(text, out, 0);
-    WrittenText {
-        verdict: verdict(0, 0),
-        length,
-    }
+    Ok(put_text(text, out, 0))
 }

@@ -7,12 +7,13 @@ use native.Mathlib.Numerals.{add-one}
 use native.Mathlib.Omega.{arith}
 use borrow.Author.Tests.{ne_eqb}
 use lib.Dec.{eqb}
-use lib.ListN.{length, get_or, set, length-set, length-append}
+use lib.ListN.{length, get_or, set, length-set, length-append, replicate, length-replicate}
 use lib.Seq.{get_or-set_same, get_or-set_other}
+use Rattle.std.proofs.lemmas.List.{get_or-replicate}
 use Rattle.definition.proofs.Fill.{split, same_or}
 use Rattle.digits.proofs.Bytes.{neither}
 use Rattle.lines.specs.Lines.{holds}
-use Rattle.repeated.specs.Tables.{places, hash_of, hash_at, stored, Last, Room, Clears, Table, Stores}
+use Rattle.repeated.specs.Tables.{places, hash_of, hash_at, stored, Last, Chained}
 
 -- ---- the keys as a list
 
@@ -21,7 +22,7 @@ unfolding stored
 stored-before keys zero m k h = refl
 stored-before keys (suc n) m k h = rw (stored-before keys n m k (omega arith), get_or-set_other keys m (suc n) k 0 (λ e. omega arith))
 
-stored_more : (keys : List ℕ) (n k : ℕ) → n + 1 < length keys → stored (set keys (n + 1) k) (n + 1) ≡ stored keys n ++ (k ∷ [])
+pub stored_more : (keys : List ℕ) (n k : ℕ) → n + 1 < length keys → stored (set keys (n + 1) k) (n + 1) ≡ stored keys n ++ (k ∷ [])
 unfolding stored
 stored_more keys n k h =
     rw (add-one n, stored-before keys n (suc n) k (omega arith), get_or-set_same keys (suc n) k 0 (omega arith))
@@ -69,29 +70,37 @@ last-here f h n x p q = record { low = omega arith; own = λ u. ap f q ∙ p; no
 
 -- ---- a table
 
-pub table_none : (keys links heads : List ℕ) → Room keys links heads → Clears links heads → Table 0 keys links heads
-table_none keys links heads s z = record {
-  room = s;
-  most = omega arith;
-  nobody = z.nobody;
-  head = λ h p. record { low = omega (arith, z.head h p); own = λ u. absurd (omega (arith, z.head h p)); none = λ j u v e. omega (arith, z.head h p) };
-  link = λ p u v. absurd (omega arith);
-}
+-- no key
+abbrev zeros : List ℕ
+zeros = replicate places 0
 
-module _ (key count h : ℕ) (keys links heads : List ℕ) (t : Table count keys links heads) (p : count + 1 < places) (e : h ≡ hash_of key) (q : h < places) where
+pub table_none : Chained 0 zeros zeros zeros
+table_none =
+    let zero_at : (h : ℕ) → h < places → get_or zeros h 0 ≡ 0 = λ h p. get_or-replicate {A = ℕ} places h 0 0 p in
+    record {
+      keys_room = length-replicate {A = ℕ} places 0;
+      links_room = length-replicate {A = ℕ} places 0;
+      heads_room = length-replicate {A = ℕ} places 0;
+      most = omega arith;
+      nobody = zero_at 0 (omega arith);
+      head = λ h p. record { low = omega (arith, zero_at h p); own = λ u. absurd (omega (arith, zero_at h p)); none = λ j u v e. omega arith };
+      link = λ p u v. absurd (omega arith);
+    }
+
+module _ (key count h : ℕ) (keys links heads : List ℕ) (t : Chained count keys links heads) (p : count + 1 < places) (e : h ≡ hash_of key) (q : h < places) where
   before : (j : ℕ) → j ≤ count → hash_at (set keys (count + 1) key) j ≡ hash_at keys j
   unfolding hash_at
   before j l = rw (get_or-set_other keys (count + 1) j key 0 (λ u. omega arith))
 
   here : hash_at (set keys (count + 1) key) (count + 1) ≡ h
   unfolding hash_at
-  here = rw (get_or-set_same keys (count + 1) key 0 (omega (arith, t.room.keys_room))) (sym e)
+  here = rw (get_or-set_same keys (count + 1) key 0 (omega (arith, t.keys_room))) (sym e)
 
   table-head : (k : ℕ) → k < places → Last (hash_at (set keys (count + 1) key)) k (count + 1) (get_or (set heads h (count + 1)) k 0)
   table-head k l =
       same_or k h
       (λ u. last-here (hash_at (set keys (count + 1) key)) k (count + 1) _ (here ∙ sym u)
-      (ap (λ (i : ℕ). get_or (set heads h (count + 1)) i 0) u ∙ get_or-set_same heads h (count + 1) 0 (omega (arith, t.room.heads_room))))
+      (ap (λ (i : ℕ). get_or (set heads h (count + 1)) i 0) u ∙ get_or-set_same heads h (count + 1) 0 (omega (arith, t.heads_room))))
       (λ u. last_on (last-same (t.head k l) before refl refl (get_or-set_other heads h k (count + 1) 0 u)) (λ w. u (sym w ∙ here)))
 
   table-link : (i : ℕ) → 1 ≤ i → i ≤ count + 1
@@ -100,23 +109,18 @@ module _ (key count h : ℕ) (keys links heads : List ℕ) (t : Table count keys
       split count i
       (λ u. let w : i ≡ count + 1 = omega arith in
       last-same (t.head h q) before (ap (hash_at (set keys (count + 1) key)) w ∙ here) (omega arith)
-      (ap (λ (j : ℕ). get_or (set links (count + 1) (get_or heads h 0)) j 0) w ∙ get_or-set_same links (count + 1) (get_or heads h 0) 0 (omega (arith, t.room.links_room))))
+      (ap (λ (j : ℕ). get_or (set links (count + 1) (get_or heads h 0)) j 0) w ∙ get_or-set_same links (count + 1) (get_or heads h 0) 0 (omega (arith, t.links_room))))
       (λ u. last-same (t.link i l u) (λ j v. before j (omega arith)) (before i u) refl (get_or-set_other links (count + 1) i (get_or heads h 0) 0 (λ w. omega arith)))
 
-  pub table_more : Stores key count keys (set keys (count + 1) key) (set links (count + 1) (get_or heads h 0)) (set heads h (count + 1))
+  pub table_more : Chained (count + 1) (set keys (count + 1) key) (set links (count + 1) (get_or heads h 0)) (set heads h (count + 1))
   table_more = record {
-    table = record {
-      room = record {
-        keys_room = length-set keys (count + 1) key ∙ t.room.keys_room;
-        links_room = length-set links (count + 1) (get_or heads h 0) ∙ t.room.links_room;
-        heads_room = length-set heads h (count + 1) ∙ t.room.heads_room;
-      };
-      most = p;
-      nobody = get_or-set_other links (count + 1) 0 (get_or heads h 0) 0 (λ w. omega arith) ∙ t.nobody;
-      head = table-head;
-      link = table-link;
-    };
-    more = stored_more keys count key (omega (arith, t.room.keys_room));
+    keys_room = length-set keys (count + 1) key ∙ t.keys_room;
+    links_room = length-set links (count + 1) (get_or heads h 0) ∙ t.links_room;
+    heads_room = length-set heads h (count + 1) ∙ t.heads_room;
+    most = p;
+    nobody = get_or-set_other links (count + 1) 0 (get_or heads h 0) 0 (λ w. omega arith) ∙ t.nobody;
+    head = table-head;
+    link = table-link;
   }
 
 -- ---- a look into a table: behind place i no key is this one
@@ -126,7 +130,7 @@ pub record Looking (key count : ℕ) (keys : List ℕ) (i : ℕ) : Type 0 where
   pub own : 1 ≤ i → hash_at keys i ≡ hash_of key
   pub none : (j : ℕ) → i < j → j ≤ count → get_or keys j 0 ≡ key → ⊥
 
-module _ (key count : ℕ) (keys links heads : List ℕ) (t : Table count keys links heads) where
+module _ (key count : ℕ) (keys links heads : List ℕ) (t : Chained count keys links heads) where
   hash_same : (j : ℕ) → get_or keys j 0 ≡ key → hash_at keys j ≡ hash_of key
   unfolding hash_at
   hash_same j p = rw p

@@ -18,8 +18,7 @@ use Rattle.market.specs.Market.{Entry, is, has}
 use Rattle.market.specs.Passes.{entries_in}
 use Rattle.market.proofs.Right.{entry, is-no}
 use Rattle.repeated.specs.Blocks.{hits, adding, first_of}
-use Rattle.repeated.specs.Tables.{key_of, keys_of, stored}
-use Rattle.repeated.proofs.Chains.{stored-length}
+use Rattle.repeated.specs.Tables.{key_of, keys_of}
 
 keys_more : (es : List Entry) (r c : ℕ) → keys_of (es ++ (entry r c ∷ [])) ≡ keys_of es ++ (key_of r c ∷ [])
 unfolding keys_of
@@ -53,15 +52,15 @@ pub record FirstMore (text : List ℕ) (from next count : ℕ) (seen : List Entr
   pub first : first_of text from count ≡ seen
   pub whole : entries_in (kinds_at text from) ≡ seen ++ entries_in (kinds_at text next)
 
--- `count` keys are stored, as many as there are entries up to the line's
-pub first_more : (text : List ℕ) (from at next count : ℕ) (seen : List Entry) (x : Kind) (keys : List ℕ)
+-- as many keys are stored as there are entries up to the line's
+pub first_more : (text : List ℕ) (from at next : ℕ) (seen : List Entry) (x : Kind) (kept : List ℕ)
     → entries_in (kinds_at text from) ≡ seen ++ entries_in (kinds_at text at) → kinds_at text at ≡ x ∷ kinds_at text next
-    → stored keys count ≡ keys_of (adding seen x) → FirstMore text from next count (adding seen x)
-first_more text from at next count seen x keys w l s =
-    let n : length (adding seen x) ≡ count = sym (keys_length (adding seen x)) ∙ ap length (sym s) ∙ stored-length keys count in
+    → kept ≡ keys_of (adding seen x) → FirstMore text from next (length kept) (adding seen x)
+first_more text from at next seen x kept w l s =
+    let n : length (adding seen x) ≡ length kept = sym (keys_length (adding seen x)) ∙ ap length (sym s) in
     let e : entries_in (kinds_at text from) ≡ adding seen x ++ entries_in (kinds_at text next) =
     w ∙ ap (λ (ks : List Kind). seen ++ entries_in ks) l ∙ line-more seen x (kinds_at text next) in
-    record { first = ap (take count) e ∙ take_at (adding seen x) (entries_in (kinds_at text next)) count n; whole = e }
+    record { first = ap (take (length kept)) e ∙ take_at (adding seen x) (entries_in (kinds_at text next)) (length kept) n; whole = e }
 
 -- ---- the first entries, read again: of those from a place on, `left` count
 

@@ -1,11 +1,10 @@
--- A block's entries by their keys, in three lists, and what the functions on them answer. Definitions only.
+-- A block's entries by their keys, with their chains, and what the functions on them answer. Definitions only.
 use Rattle.std.specs.Prelude.{◌≡◌, List, [], ◌∷◌, ◌++◌, ℕ, zero, suc, ◌+◌, ◌-◌, ◌*◌, ◌/◌, ◌%◌, ◌≤◌, ◌<◌, length, get_or}
 use Rattle.lines.specs.Kinds.{kinds_at}
 use Rattle.lines.specs.declared.Kind.{Kind}
 use Rattle.market.specs.Market.{Entry}
 use Rattle.market.specs.Passes.{repeat_from}
 use Rattle.repeated.specs.Blocks.{adding, first_of}
-use Rattle.repeated.specs.declared.Filled.{Filled}
 use Rattle.repeated.specs.declared.Rest.{Rest}
 
 abbrev pub places : ℕ
@@ -39,43 +38,28 @@ pub record Last (f : ℕ → ℕ) (h n x : ℕ) : Type 0 where
   pub own : 1 ≤ x → f x ≡ h
   pub none : (j : ℕ) → x < j → j ≤ n → f j ≡ h → ⊥
 
-pub record Room (keys links heads : List ℕ) : Type 0 where
+-- so many keys with their chains
+pub record Chained (count : ℕ) (keys links heads : List ℕ) : Type 0 where
   pub keys_room : length keys ≡ places
   pub links_room : length links ≡ places
   pub heads_room : length heads ≡ places
-
--- no chain
-pub record Clears (links heads : List ℕ) : Type 0 where
-  pub nobody : get_or links 0 0 ≡ 0
-  pub head : (h : ℕ) → h < places → get_or heads h 0 ≡ 0
-
--- so many keys with their chains
-pub record Table (count : ℕ) (keys links heads : List ℕ) : Type 0 where
-  pub room : Room keys links heads
   pub most : count < places
   pub nobody : get_or links 0 0 ≡ 0
   pub head : (h : ℕ) → h < places → Last (hash_at keys) h count (get_or heads h 0)
   pub link : (p : ℕ) → 1 ≤ p → p ≤ count → Last (hash_at keys) (hash_at keys p) (p - 1) (get_or links p 0)
 
--- one key more
-pub record Stores (key count : ℕ) (keys keys' links' heads' : List ℕ) : Type 0 where
-  pub table : Table (count + 1) keys' links' heads'
-  pub more : stored keys' (count + 1) ≡ stored keys count ++ (key ∷ [])
-
--- a line's
-pub record Keeps (kind : Kind) (count : ℕ) (keys : List ℕ) (r : ℕ) (keys' links' heads' : List ℕ) : Type 0 where
-  pub table : Table r keys' links' heads'
-  pub more : (seen : List Entry) → stored keys count ≡ keys_of seen → stored keys' r ≡ keys_of (adding seen kind)
+-- a line's entry is stored, if it has one
+abbrev pub Keeps : Kind → List ℕ → List ℕ → Type 0
+Keeps kind kept kept' = (seen : List Entry) → kept ≡ keys_of seen → kept' ≡ keys_of (adding seen kind)
 
 -- the keys are those of so many entries of the text, from a place on
-pub record Block (text : List ℕ) (from count : ℕ) (keys links heads : List ℕ) : Type 0 where
-  pub table : Table count keys links heads
-  pub held : stored keys count ≡ keys_of (first_of text from count)
+abbrev pub Holds : List ℕ → ℕ → List ℕ → Type 0
+Holds text from kept = kept ≡ keys_of (first_of text from (length kept))
 
 -- what is looked for stands behind the block
-pub record Fills (text : List ℕ) (from first limit : ℕ) (r : Filled) (keys links heads : List ℕ) : Type 0 where
-  pub block : Block text from r.count keys links heads
-  pub same : repeat_from [] first limit (kinds_at text from) ≡ repeat_from (first_of text from r.count) r.line r.limit (kinds_at text r.at)
+pub record Fills (text : List ℕ) (from first limit : ℕ) (r : Rest) (kept : List ℕ) : Type 0 where
+  pub block : Holds text from kept
+  pub same : repeat_from [] first limit (kinds_at text from) ≡ repeat_from (first_of text from (length kept)) r.line r.limit (kinds_at text r.at)
   pub on : from < r.at
   pub within : r.at ≤ length text
   pub below : r.line ≤ r.at

@@ -12,15 +12,16 @@ use lib.Seq.{take-append_seam}
 use Rattle.definition.specs.Refusals.{Verdict, refused}
 use Rattle.definition.specs.SpectralEmbedding.{Counts}
 use Rattle.digits.specs.Placed.{put}
-use Rattle.std.specs.Prelude.{Some, None}
+use Rattle.std.specs.Prelude.{Some, None, Result, Ok, IsOk}
 use Rattle.std.specs.Option.{unwrap_or}
 use Rattle.files.proofs.Floats.{length_floats, take_floats}
+use Rattle.input.specs.declared.refusal.Refusal.{Refusal}
 use Rattle.input.proofs.Verdicts.{test_passes}
 use Rattle.printing.specs.Printed.{refusal_text, room}
-use Rattle.printing.specs.Room.{Leaves}
+use Rattle.printing.specs.Room.{judged_in, length_in, Leaves}
 use Rattle.printing.specs.Answer as printing
-use Rattle.printing.specs.Answer.{test_answer}
-use Rattle.printing.proofs.Answers.{refusal_tests, refusal-says, answer_left}
+use Rattle.printing.specs.Answer.{test_printed, test_answer}
+use Rattle.printing.proofs.Answers.{refusal_tests, refusal-says, answer-written, answer_left}
 use Rattle.printing.proofs.Leaving.{same_text}
 use Rattle.reading.specs.Grammar.{starts_most, entries_most, rounds_most}
 use Rattle.reading.specs.ReadRun.{Read, run, fault, read_run, record_of, floats_of, padded}
@@ -92,13 +93,24 @@ module _ (bytes : List ℕ) {file : RunFile} (e : file ≡ record_of (read_run b
   fault-held t = ap (λ (r : RunFile). refusal_text 17 r.line) e ∙ fault_read (read_run bytes) (sym (ap (λ (r : RunFile). r.is_right) e) ∙ t)
 
 -- ---- what the second writer prints of a fault
-pub fault_printed : (line : ℕ) (counts : Counts) (seed : List Float) (out : List ℕ) {v verdict : Verdict} {count : ℕ} {after : List ℕ} → v ≡ refused 17 line
-    → room ≤ length out → Leaves (test_answer v 0 0 counts seed out) (printing.answer_text v 0 0 counts seed) out verdict count after
-    → (count ≡ length (refusal_text 17 line)) × (count ≤ room) × (after ≡ put (refusal_text 17 line) 0 out)
-fault_printed line counts seed out {v} e long left =
-    let f : v.number ≡ 0 → ⊥ = λ z. absurd (omega (arith, ap (λ (x : Verdict). x.number) e)) in
-    same_text out (sym (refusal-says v 0 0 counts seed f) ∙ ap (λ (x : Verdict). refusal_text x.number x.place) e)
-    (answer_left v 0 0 counts seed out (test_passes (refusal_tests v 0 0 (length seed) f) refl) long left)
+module _ (line : ℕ) (counts : Counts) (seed : List Float) (out : List ℕ) {v : Verdict} (e : v ≡ refused 17 line) where
+  is_refusal : v.number ≡ 0 → ⊥
+  is_refusal z = absurd (omega (arith, ap (λ (x : Verdict). x.number) e))
+
+  printed : (test_printed v 0 0 (length seed)).number ≡ 0
+  printed = test_passes (refusal_tests v 0 0 (length seed) is_refusal) refl
+
+  -- w is what it answered
+  module _ (w : Result ℕ Refusal) {after : List ℕ} (long : room ≤ length out)
+      (left : Leaves (test_answer v 0 0 counts seed out) (printing.answer_text v 0 0 counts seed) out (judged_in w) (length_in w) after) where
+    pub fault-written : IsOk w
+    fault-written = answer-written v 0 0 counts seed out w printed long left
+
+    pub fault_printed : {count : ℕ} → w ≡ Ok count
+        → (count ≡ length (refusal_text 17 line)) × (count ≤ room) × (after ≡ put (refusal_text 17 line) 0 out)
+    fault_printed is =
+        same_text out (sym (refusal-says v 0 0 counts seed is_refusal) ∙ ap (λ (x : Verdict). refusal_text x.number x.place) e)
+        (answer_left v 0 0 counts seed out is printed long left)
 
 -- ---- what `answer` answers and leaves
 module _ (bytes out : List ℕ) where

@@ -9,6 +9,7 @@ use borrow.Author.Tests.{eqb-true, eqb-false, eq-eqb, ne_eqb, le-ltb}
 use lib.Dec.{eqb, ltb}
 use lib.Ieee.{Float, binary64, nan}
 use lib.ListN.{length, get_or}
+use Rattle.std.specs.Prelude.{Result, Ok, IsOk}
 use Rattle.definition.specs.Arith.{ieee64}
 use Rattle.definition.specs.Memory.{wholes_of, place, block_of}
 use Rattle.definition.specs.Numbers.{Params, chunks, lent_sizes, lent_size, lent_count}
@@ -16,6 +17,7 @@ use Rattle.definition.specs.Refusals.{Verdict, accepted, passes, given, or_else,
 use Rattle.definition.specs.SpectralEmbedding.{Counts}
 use Rattle.definition.proofs.First.{all_first}
 use Rattle.digits.specs.Placed.{put}
+use Rattle.input.specs.declared.refusal.Refusal.{Refusal}
 use Rattle.input.specs.Said.{verdict_of}
 use Rattle.input.proofs.Accepted.{both_pass, dims_valid, graph_valid}
 use Rattle.input.proofs.Verdicts.{test_passes}
@@ -25,9 +27,9 @@ use Rattle.promises.proofs.Ieee.{steady}
 use Rattle.promises.specs.Promises.{stages_of}
 use Rattle.promises.proofs.Upward.{whole-shows, here_fit}
 use Rattle.printing.specs.Printed.{bits_text, numbers_text, row_name, rows_text, head_text, seed_text, refusal_text, room}
-use Rattle.printing.specs.Room.{Leaves}
+use Rattle.printing.specs.Room.{judged_in, length_in, Leaves}
 use Rattle.printing.specs.Answer.{test_printed, answer_text, test_answer}
-use Rattle.printing.proofs.Answers.{right-seed, refusal_tests, seed_tests, refusal-says, seed-says, answer_left}
+use Rattle.printing.proofs.Answers.{right-seed, refusal_tests, seed_tests, refusal-says, seed-says, answer-written, answer_left}
 use Rattle.printing.proofs.Leaving.{same_text}
 use Rattle.spectral.specs.Said.{whole_in}
 use Rattle.spectral.specs.declared.Embedded.{Embedded}
@@ -185,13 +187,18 @@ module _ (d : ℕ) (params : Params) (starts columns : List ℕ) (values : List 
       go true q = let z = eqb-true v.number 0 q in sym (seed-says v d n t output z) ∙ says-seed z
       go false q = let f = eqb-false v.number 0 q in sym (refusal-says v d n t output f) ∙ says-refusal f
 
-  pub answers : {rows : ℕ} (out : List ℕ) {verdict : Verdict} {count : ℕ} {after : List ℕ} → rows ≡ n → length starts ≤ 65 → room ≤ length out
-      → Leaves (test_answer v d rows t output out) (answer_text v d rows t output) out verdict count after
-      → (count ≡ length (answer_of d params starts columns values)) × (count ≤ room) × (after ≡ put (answer_of d params starts columns values) 0 out)
-  answers out {verdict} {count} {after} same few long left =
-      same_text out says
-      (answer_left v d n t output out (printable few) long
-      (subst (λ (r : ℕ). Leaves (test_answer v d r t output out) (answer_text v d r t output) out verdict count after) same left))
+  -- w is what it answered
+  module _ {rows : ℕ} (out : List ℕ) (w : Result ℕ Refusal) {after : List ℕ} (same : rows ≡ n) (few : length starts ≤ 65) (long : room ≤ length out)
+      (left : Leaves (test_answer v d rows t output out) (answer_text v d rows t output) out (judged_in w) (length_in w) after) where
+    here : Leaves (test_answer v d n t output out) (answer_text v d n t output) out (judged_in w) (length_in w) after
+    here = subst (λ (r : ℕ). Leaves (test_answer v d r t output out) (answer_text v d r t output) out (judged_in w) (length_in w) after) same left
+
+    pub is-written : IsOk w
+    is-written = answer-written v d n t output out w (printable few) long here
+
+    pub answers : {count : ℕ} → w ≡ Ok count
+        → (count ≡ length (answer_of d params starts columns values)) × (count ≤ room) × (after ≡ put (answer_of d params starts columns values) 0 out)
+    answers is = same_text out says (answer_left v d n t output out is (printable few) long here)
 
 -- the same of the code's records, where the lent lists have the lengths of the program's memory
 pub embeds_in : {d : ℕ} {params : Params} {starts columns : List ℕ} {values : List Float} (r : Embedded) (m : Lent ieee64) (marks : List ℕ) {after : Lent ieee64} {marked : List ℕ}

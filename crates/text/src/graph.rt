@@ -69,6 +69,5 @@ pub fn answer_graph(
     let embedded = embed(d, params, starts, columns, values, seed);
     let verdict = embedded.verdict;
     let counts = embedded.counts;
-    let written = printing::write_answer(verdict, d, input::row_count(starts), counts, seed, out);
-    written.length
+    printing::write_answer(verdict, d, input::row_count(starts), counts, seed, out).unwrap()
 }

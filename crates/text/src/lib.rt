@@ -6,7 +6,7 @@ ghost use Rattle.digits.specs.Placed.{put};
 ghost use Rattle.printing.specs.Printed.{refusal_text, room};
 ghost use Rattle.text.specs.Answer.{answer_held, answered, placed};
 
-use input::SpectralParams;
+use input::{Refusal, SpectralParams, Verdict};
 use reading::RunFile;
 use state::Counts;
 
@@ -52,8 +52,8 @@ fn answer_fault(line: u64, out: &mut [u8]) -> usize
         zeroed: 0,
         isolated: 0,
     };
-    let written = printing::write_answer(printing::verdict(17, line), 0, 0, counts, &[], out);
-    written.length
+    let fault = Verdict::from(Err(Refusal::File(line)));
+    printing::write_answer(fault, 0, 0, counts, &[], out).unwrap()
 }
 
 // The whole output for the whole input; how many bytes it has. Where `out` has less than ROOM bytes it stays as it is.

@@ -3,13 +3,12 @@ ghost use Rattle.std.specs.Prelude.{◌≡◌};
 ghost use Rattle.files.specs.RunText.{test_write, run_text};
 ghost use Rattle.input.specs.Said.{verdict_of, verdict_in, params_of};
 ghost use Rattle.printing.specs.Answer.{test_answer, answer_text};
-ghost use Rattle.printing.specs.Room.{Leaves};
+ghost use Rattle.printing.specs.Room.{judged_in, length_in, Leaves};
 ghost use Rattle.reading.specs.ReadRun.{read_run, record_of};
 ghost use Rattle.state.specs.Said.{counts_in};
 ghost use Rattle.threshcinch.specs.Texts.{text_verdict, run_told};
 
 use input::{Refusal, SpectralParams, Verdict};
-use printing::WrittenText;
 use state::Counts;
 
 // A run file as it was read: its numbers, zeros behind those of each list. Where the text is none, the verdict is 17 at the line and all else zeros.
@@ -25,6 +24,31 @@ pub struct RunRead {
     pub starts: [u64; 65],
     pub columns: [u32; 1024],
     pub values: [f64; 1024],
+}
+
+// What a writer of a whole text answers: how many bytes it wrote from the first one on, 0 with a refusal.
+#[repr(C)]
+#[derive(Drop)]
+pub struct WrittenText {
+    pub verdict: Verdict,
+    pub length: usize,
+}
+
+impl From<Result<usize, Refusal>> for WrittenText {
+    ghost from_gives = { λ answer written. (verdict_of written.verdict ≡ judged_in answer) × (written.length ≡ length_in answer) };
+
+    fn from(answer: Result<usize, Refusal>) -> WrittenText {
+        match answer {
+            Ok(length) => WrittenText {
+                verdict: Verdict::from(Ok(())),
+                length,
+            },
+            Err(refusal) => WrittenText {
+                verdict: Verdict::from(Err(refusal)),
+                length: 0,
+            },
+        }
+    }
 }
 
 // 17 at the line, or no refusal.
@@ -78,7 +102,7 @@ pub extern "C" fn threshcinch_write_run(
     ensures { Leaves (test_write d (params_of params) starts.now columns.now values.now text.old)
         (run_text d (params_of params) starts.now columns.now values.now) text.old (verdict_of result.verdict) result.length text.new }
 {
-    writing::write_run(d, params, starts, columns, values, text)
+    WrittenText::from(writing::write_run(d, params, starts, columns, values, text))
 }
 
 #[unsafe(no_mangle)]
@@ -93,5 +117,5 @@ pub extern "C" fn threshcinch_write_answer(
     ensures { Leaves (test_answer (verdict_of verdict) d rows (counts_in counts) seed.now text.old)
         (answer_text (verdict_of verdict) d rows (counts_in counts) seed.now) text.old (verdict_of result.verdict) result.length text.new }
 {
-    printing::write_answer(verdict, d, rows, counts, seed, text)
+    WrittenText::from(printing::write_answer(verdict, d, rows, counts, seed, text))
 }

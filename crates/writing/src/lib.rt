@@ -3,14 +3,14 @@
 
 ghost use Rattle.std.specs.Prelude.{◌≡◌, List, ℕ, length};
 ghost use Rattle.digits.specs.Digits.{decimal};
-ghost use Rattle.input.specs.Said.{verdict_of, params_of};
+ghost use Rattle.input.specs.Said.{verdict_in, params_of};
 ghost use Rattle.printing.specs.Printed.{bits_text};
-ghost use Rattle.printing.specs.Room.{Leaves};
+ghost use Rattle.printing.specs.Room.{judged_in, length_in, Leaves};
 ghost use Rattle.files.specs.RunText.{test_sizes, test_file, test_run, test_write, run_text};
 ghost use Rattle.writing.specs.Putting.{item_text, joined_by, line_by, head_text, Puts, Room};
 
-use input::{SpectralParams, Verdict};
-use printing::{WrittenText, put_text, verdict};
+use input::{Refusal, SpectralParams};
+use printing::put_text;
 use reading::{ENTRIES_MOST, ROUNDS_MOST, STARTS_MOST};
 
 // ---- a line
@@ -118,22 +118,22 @@ fn put_run(
 // ---- what is refused
 
 // 17: over the program's sizes, with the first line that would hold them.
-fn test_sizes(rounds: u64, starts: usize, columns: usize, values: usize) -> Verdict
-    ensures { verdict_of result ≡ test_sizes rounds starts columns values }
+fn test_sizes(rounds: u64, starts: usize, columns: usize, values: usize) -> Result<(), Refusal>
+    ensures { verdict_in result ≡ test_sizes rounds starts columns values }
 {
     if ROUNDS_MOST < rounds {
-        return verdict(17, 2);
+        return Err(Refusal::File(2));
     }
     if STARTS_MOST < starts {
-        return verdict(17, 5);
+        return Err(Refusal::File(5));
     }
     if ENTRIES_MOST < columns {
-        return verdict(17, 6);
+        return Err(Refusal::File(6));
     }
     if ENTRIES_MOST < values {
-        return verdict(17, 7);
+        return Err(Refusal::File(7));
     }
-    verdict(0, 0)
+    Ok(())
 }
 
 // 1 to 10: the test of a file. That of the opening is another: a file can be written that no run takes.
@@ -143,18 +143,12 @@ fn test_file(
     starts: &[u64],
     columns: &[u32],
     values: &[f64],
-) -> Verdict
-    ensures { verdict_of result ≡ test_file d (params_of params) starts.now columns.now values.now }
+) -> Result<(), Refusal>
+    ensures { verdict_in result ≡ test_file d (params_of params) starts.now columns.now values.now }
 {
-    let dims = Verdict::from(input::test_dims(d));
-    if dims.number != 0 {
-        return dims;
-    }
-    let graph = Verdict::from(input::test_graph(starts, columns, values));
-    if graph.number != 0 {
-        return graph;
-    }
-    Verdict::from(input::test_params(params))
+    input::test_dims(d)?;
+    input::test_graph(starts, columns, values)?;
+    input::test_params(params)
 }
 
 fn test_run(
@@ -163,13 +157,10 @@ fn test_run(
     starts: &[u64],
     columns: &[u32],
     values: &[f64],
-) -> Verdict
-    ensures { verdict_of result ≡ test_run d (params_of params) starts.now columns.now values.now }
+) -> Result<(), Refusal>
+    ensures { verdict_in result ≡ test_run d (params_of params) starts.now columns.now values.now }
 {
-    let sizes = test_sizes(params.rounds, starts.len(), columns.len(), values.len());
-    if sizes.number != 0 {
-        return sizes;
-    }
+    test_sizes(params.rounds, starts.len(), columns.len(), values.len())?;
     test_file(d, params, starts, columns, values)
 }
 
@@ -180,7 +171,7 @@ fn blank() -> [u8; 32768]
     [0; 32768]
 }
 
-// The run file of a graph with its parameters. It is made in memory of its own and then copied whole, so that a refused call has changed no byte.
+// The run file of a graph with its parameters, and its length. It is made in memory of its own and then copied whole, so that a refused call has changed no byte.
 pub fn write_run(
     d: u64,
     params: SpectralParams,
@@ -188,14 +179,11 @@ pub fn write_run(
     columns: &[u32],
     values: &[f64],
     out: &mut [u8],
-) -> WrittenText
+) -> Result<usize, Refusal>
     ensures { Leaves (test_write d (params_of params) starts.now columns.now values.now out.old)
-        (run_text d (params_of params) starts.now columns.now values.now) out.old (verdict_of result.verdict) result.length out.new }
+        (run_text d (params_of params) starts.now columns.now values.now) out.old (judged_in result) (length_in result) out.new }
 {
-    let tested = test_run(d, params, starts, columns, values);
-    if tested.number != 0 {
-        return printing::refused(tested);
-    }
+    test_run(d, params, starts, columns, values)?;
     let mut text = blank();
     let end = put_run(d, params, starts, columns, values, &mut text);
     printing::deliver(&text[..end], out)

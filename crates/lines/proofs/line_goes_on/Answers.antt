@@ -9,6 +9,9 @@ use Rattle.lines.proofs.line_goes_on.Goals as goal
 pub returns-then-text-i : goal.returns-then-text-i
 returns-then-text-i c = sym (ap line_goes_on (drop_of_length-le _ c.if-text-i.true) ∙ goes_nil)
 
+pub returns-then-text-i-gt13 : goal.returns-then-text-i-gt13
+returns-then-text-i-gt13 c = goes_other _ _ c.if-text-i.false (λ e. absurd (omega arith)) (λ e. absurd (omega arith))
+
 pub returns-in-10 : goal.returns-in-10
 returns-in-10 c = goes_newline _ _ c.if-text-i.false (omega arith)
 

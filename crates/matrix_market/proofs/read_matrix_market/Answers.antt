@@ -1,10 +1,6 @@
 use mathlib.Core.Path.{sym, ap, ◌∙◌}
-use Rattle.input.specs.Said.{verdict_of}
-use Rattle.input.specs.declared.Verdict.{Verdict}
 use Rattle.market.specs.Market.{Read}
-use Rattle.matrix_market.specs.Outcome.{outcome, outcome_of}
-use Rattle.matrix_market.specs.Said.{outcome_in}
-use Rattle.matrix_market.specs.declared.MarketRead.{MarketRead}
+use Rattle.matrix_market.specs.Outcome.{outcome_of}
 use Rattle.matrix_market.proofs.Outcomes.{out_fault}
 use Rattle.matrix_market.proofs.read_matrix_market.Goals as goal
 
@@ -20,7 +16,5 @@ returns-in-Ok c =
 pub returns-in-Err : goal.returns-in-Err
 returns-in-Err c =
     let a = c.args in
-    ap (λ (x : MarketRead). outcome_in x a.starts.now a.columns.now a.values.now) c.refused.ensures
-    ∙ ap (λ (v : Verdict). outcome (verdict_of v) 0 0 a.starts.now a.columns.now a.values.now) c.verdict.ensures
-    ∙ out_fault _ a.starts.now a.columns.now a.values.now
+    out_fault _ a.starts.now a.columns.now a.values.now
     ∙ sym (ap (λ (r : Read). outcome_of r a.starts.now a.columns.now a.values.now) c.in-Err.ensures.is)

@@ -4,8 +4,8 @@ use lib.ListN.{length}
 use Rattle.repeated.proofs.Filling.{Filling}
 use Rattle.repeated.proofs.fill.Given as goal
 
-abbrev pub invariant-loop-count : goal.invariant-loop-count
-invariant-loop-count l = Filling l.text l.from l.first l.limit l.count l.at l.line l.keys l.links l.heads
+abbrev pub invariant-loop-r : goal.invariant-loop-r
+invariant-loop-r l = Filling l.text l.from l.first l.limit l.at l.line l.table
 
-abbrev pub decreases-loop-count : goal.decreases-loop-count
-decreases-loop-count l = length l.text - l.at
+abbrev pub decreases-loop-r : goal.decreases-loop-r
+decreases-loop-r l = length l.text - l.at

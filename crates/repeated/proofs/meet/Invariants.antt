@@ -9,7 +9,7 @@ use Rattle.repeated.proofs.meet.Given as goal
 abbrev pub invariant-loop-at : goal.invariant-loop-at
 invariant-loop-at l =
     (l.line ≤ l.at) × (l.at ≤ length l.text)
-    × (meet_from (first_of l.text l.block l.count) l.first l.limit (kinds_at l.text l.from) ≡ meet_from (first_of l.text l.block l.count) l.line l.limit (kinds_at l.text l.at))
+    × (meet_from (first_of l.text l.block (length l.table)) l.first l.limit (kinds_at l.text l.from) ≡ meet_from (first_of l.text l.block (length l.table)) l.line l.limit (kinds_at l.text l.at))
 
 abbrev pub decreases-loop-at : goal.decreases-loop-at
 decreases-loop-at l = length l.text - l.at

@@ -1,16 +1,15 @@
-use mathlib.Core.Path.{◌∙◌}
 use Rattle.files.specs.RunText.{test_file}
-use Rattle.input.proofs.Verdicts.{refuses, goes_on_lem}
+use Rattle.input.proofs.Verdicts.{stops, goes_past}
 use Rattle.writing.proofs.test_file.Goals as goal
 
-pub returns-then-dims-ne0 : goal.returns-then-dims-ne0
+pub returns-in_err-test_dims : goal.returns-in_err-test_dims
 unfolding test_file
-returns-then-dims-ne0 c = refuses (c.from-dims.ensures ∙ c.test_dims.ensures) _ c.if-dims-ne0.true
+returns-in_err-test_dims c = stops _ _ c.from_residual.ensures.1 _ c.in_err-test_dims.ensures
 
-pub returns-then-graph-ne0 : goal.returns-then-graph-ne0
+pub returns-in_err-test_graph : goal.returns-in_err-test_graph
 unfolding test_file
-returns-then-graph-ne0 c = goes_on_lem (c.from-dims.ensures ∙ c.test_dims.ensures) c.if-dims-ne0.false (refuses (c.from-graph.ensures ∙ c.test_graph.ensures) _ c.if-graph-ne0.true)
+returns-in_err-test_graph c = goes_past c.in_ok-test_dims.ensures (stops _ _ c.from_residual-in_err-test_graph.ensures.1 _ c.in_err-test_graph.ensures)
 
 pub returns : goal.returns
 unfolding test_file
-returns c = goes_on_lem (c.from-dims.ensures ∙ c.test_dims.ensures) c.if-dims-ne0.false (goes_on_lem (c.from-graph.ensures ∙ c.test_graph.ensures) c.if-graph-ne0.false (c.from.ensures ∙ c.test_params.ensures))
+returns c = goes_past c.in_ok-test_dims.ensures (goes_past c.in_ok-test_graph.ensures c.test_params.ensures)

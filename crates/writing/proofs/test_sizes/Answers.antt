@@ -1,3 +1,4 @@
+use mathlib.Core.Path.{refl}
 use native.Mathlib.Omega.{arith}
 use borrow.Author.Tests.{lt-ltb, le-ltb}
 use lib.Dec.{ltb}
@@ -9,28 +10,28 @@ pub returns-then-rounds-gt-ROUNDS_MOST : goal.returns-then-rounds-gt-ROUNDS_MOST
 unfolding test_sizes
 returns-then-rounds-gt-ROUNDS_MOST c =
     let a = c.args in
-    faulty_first (ltb 400 a.rounds) 16 2 _ (lt-ltb 400 a.rounds c.if-rounds-gt-ROUNDS_MOST.true) c.verdict.ensures
+    faulty_first (ltb 400 a.rounds) 16 2 _ (lt-ltb 400 a.rounds c.if-rounds-gt-ROUNDS_MOST.true) refl
 
 pub returns-then-starts-gt-STARTS_MOST : goal.returns-then-starts-gt-STARTS_MOST
 unfolding test_sizes
 returns-then-starts-gt-STARTS_MOST c =
     let a = c.args in
-    faultless_first (ltb 400 a.rounds) 17 2 (le-ltb 400 a.rounds (omega arith)) (faulty_first (ltb 65 a.starts) 16 5 _ (lt-ltb 65 a.starts c.if-starts-gt-STARTS_MOST.true) c.verdict-then-starts-gt-STARTS_MOST.ensures)
+    faultless_first (ltb 400 a.rounds) 17 2 (le-ltb 400 a.rounds (omega arith)) (faulty_first (ltb 65 a.starts) 16 5 _ (lt-ltb 65 a.starts c.if-starts-gt-STARTS_MOST.true) refl)
 
 pub returns-then-columns-gt-ENTRIES_MOST : goal.returns-then-columns-gt-ENTRIES_MOST
 unfolding test_sizes
 returns-then-columns-gt-ENTRIES_MOST c =
     let a = c.args in
-    faultless_first (ltb 400 a.rounds) 17 2 (le-ltb 400 a.rounds (omega arith)) (faultless_first (ltb 65 a.starts) 17 5 (le-ltb 65 a.starts (omega arith)) (faulty_first (ltb 1024 a.columns) 16 6 _ (lt-ltb 1024 a.columns c.if-columns-gt-ENTRIES_MOST.true) c.verdict-then-columns-gt-ENTRIES_MOST.ensures))
+    faultless_first (ltb 400 a.rounds) 17 2 (le-ltb 400 a.rounds (omega arith)) (faultless_first (ltb 65 a.starts) 17 5 (le-ltb 65 a.starts (omega arith)) (faulty_first (ltb 1024 a.columns) 16 6 _ (lt-ltb 1024 a.columns c.if-columns-gt-ENTRIES_MOST.true) refl))
 
 pub returns-then-values-gt-ENTRIES_MOST : goal.returns-then-values-gt-ENTRIES_MOST
 unfolding test_sizes
 returns-then-values-gt-ENTRIES_MOST c =
     let a = c.args in
-    faultless_first (ltb 400 a.rounds) 17 2 (le-ltb 400 a.rounds (omega arith)) (faultless_first (ltb 65 a.starts) 17 5 (le-ltb 65 a.starts (omega arith)) (faultless_first (ltb 1024 a.columns) 17 6 (le-ltb 1024 a.columns (omega arith)) (faulty (ltb 1024 a.values) 16 7 (lt-ltb 1024 a.values c.if-values-gt-ENTRIES_MOST.true) c.verdict-then-values-gt-ENTRIES_MOST.ensures)))
+    faultless_first (ltb 400 a.rounds) 17 2 (le-ltb 400 a.rounds (omega arith)) (faultless_first (ltb 65 a.starts) 17 5 (le-ltb 65 a.starts (omega arith)) (faultless_first (ltb 1024 a.columns) 17 6 (le-ltb 1024 a.columns (omega arith)) (faulty (ltb 1024 a.values) 16 7 (lt-ltb 1024 a.values c.if-values-gt-ENTRIES_MOST.true) refl)))
 
 pub returns : goal.returns
 unfolding test_sizes
 returns c =
     let a = c.args in
-    faultless_first (ltb 400 a.rounds) 17 2 (le-ltb 400 a.rounds (omega arith)) (faultless_first (ltb 65 a.starts) 17 5 (le-ltb 65 a.starts (omega arith)) (faultless_first (ltb 1024 a.columns) 17 6 (le-ltb 1024 a.columns (omega arith)) (faultless (ltb 1024 a.values) 17 7 (le-ltb 1024 a.values (omega arith)) c.verdict-2.ensures)))
+    faultless_first (ltb 400 a.rounds) 17 2 (le-ltb 400 a.rounds (omega arith)) (faultless_first (ltb 65 a.starts) 17 5 (le-ltb 65 a.starts (omega arith)) (faultless_first (ltb 1024 a.columns) 17 6 (le-ltb 1024 a.columns (omega arith)) (faultless (ltb 1024 a.values) 17 7 (le-ltb 1024 a.values (omega arith)) refl)))

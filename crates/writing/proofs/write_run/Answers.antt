@@ -2,28 +2,28 @@ use native.Mathlib.Omega.{arith}
 use Rattle.files.specs.RunText.{run_text, test_run, test_write}
 use Rattle.files.proofs.Fits.{text-fits}
 use Rattle.input.specs.Said.{params_of}
-use Rattle.input.proofs.Verdicts.{test_passes}
+use Rattle.input.proofs.Verdicts.{passed}
 use Rattle.printing.proofs.Leaving.{leaves_refused, leaves_tested, put_front, put_count}
 use Rattle.writing.proofs.write_run.Goals as goal
 
-pub returns-then-tested-ne0 : goal.returns-then-tested-ne0
+pub returns-in_err-test_run : goal.returns-in_err-test_run
 unfolding test_write
-returns-then-tested-ne0 c =
+returns-in_err-test_run c =
     let a = c.args in
     let p = params_of a.params in
-    leaves_refused (test_run a.d p a.starts.now a.columns.now a.values.now) (run_text a.d p a.starts.now a.columns.now a.values.now) a.out.now c.test_run-tested.ensures c.if-tested-ne0.true c.refused.ensures.0 c.refused.ensures.1
+    leaves_refused (test_run a.d p a.starts.now a.columns.now a.values.now) (run_text a.d p a.starts.now a.columns.now a.values.now) a.out.now
+    _ _ c.from_residual.ensures.1 c.in_err-test_run.ensures
 
 pub put_run-end-requires : goal.put_run-end-requires
 put_run-end-requires c =
     let a = c.args in
     let p = params_of a.params in
-    let passed = test_passes c.test_run-tested.ensures c.if-tested-ne0.false in
-    omega (arith, text-fits a.d p a.starts.now a.columns.now a.values.now passed, c.blank-text.ensures)
+    omega (arith, text-fits a.d p a.starts.now a.columns.now a.values.now (passed c.in_ok-test_run.ensures), c.blank-text.ensures)
 
 pub slice_bounds-text-end : goal.slice_bounds-text-end
 slice_bounds-text-end c =
     let a = c.args in
-    let fits = text-fits a.d (params_of a.params) a.starts.now a.columns.now a.values.now (test_passes c.test_run-tested.ensures c.if-tested-ne0.false) in
+    let fits = text-fits a.d (params_of a.params) a.starts.now a.columns.now a.values.now (passed c.in_ok-test_run.ensures) in
     omega (arith, fits, c.put_run-end.ensures.0, c.put_run-end.auto.out, c.blank-text.ensures)
 
 pub slice_bounds-deliver-end : goal.slice_bounds-deliver-end
@@ -38,4 +38,4 @@ returns c =
     let p = params_of a.params in
     let text = run_text a.d p a.starts.now a.columns.now a.values.now in
     let made = put_front text c.blank-text.result {end = c.put_run-end.result} (omega (arith, c.put_run-end.ensures.0)) c.put_run-end.ensures.1 in
-    leaves_tested (test_run a.d p a.starts.now a.columns.now a.values.now) text a.out.now c.test_run-tested.ensures c.if-tested-ne0.false made c.deliver.ensures
+    leaves_tested (test_run a.d p a.starts.now a.columns.now a.values.now) text a.out.now c.in_ok-test_run.ensures made c.deliver.ensures

@@ -6,7 +6,7 @@ use Rattle.printing.proofs.answer.test_printed.Goals as goal
 pub returns-then-asked-ne0 : goal.returns-then-asked-ne0
 returns-then-asked-ne0 c =
     let a = c.args in
-    c.verdict.ensures ∙ refusal_tests (verdict_of a.asked) a.d a.n a.numbers c.if-asked-ne0.true
+    refusal_tests (verdict_of a.asked) a.d a.n a.numbers c.if-asked-ne0.true
 
 pub returns : goal.returns
 returns c =

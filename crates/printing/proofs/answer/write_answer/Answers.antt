@@ -1,22 +1,22 @@
 use native.Mathlib.Omega.{arith}
 use lib.ListN.{length}
 use Rattle.input.specs.Said.{verdict_of}
-use Rattle.input.proofs.Verdicts.{test_passes}
+use Rattle.input.proofs.Verdicts.{passed}
 use Rattle.state.specs.Said.{counts_in}
 use Rattle.printing.specs.Answer.{test_printed, answer_text, test_answer}
 use Rattle.printing.proofs.Leaving.{leaves_refused, leaves_tested, put_front, put_count}
 use Rattle.printing.proofs.answer.write_answer.Goals as goal
 
-pub returns-then-tested-ne0 : goal.returns-then-tested-ne0
+pub returns-in_err-test_printed : goal.returns-in_err-test_printed
 unfolding test_answer
-returns-then-tested-ne0 c =
+returns-in_err-test_printed c =
     let a = c.args in
     let v = verdict_of a.verdict in
     leaves_refused (test_printed v a.d a.n (length a.seed.now)) (answer_text v a.d a.n (counts_in a.counts) a.seed.now) a.out.now
-    c.test_printed-tested.ensures c.if-tested-ne0.true c.refused.ensures.0 c.refused.ensures.1
+    _ _ c.from_residual.ensures.1 c.in_err-test_printed.ensures
 
 pub print_answer-end-requires : goal.print_answer-end-requires
-print_answer-end-requires c = (test_passes c.test_printed-tested.ensures c.if-tested-ne0.false, omega arith)
+print_answer-end-requires c = (passed c.in_ok-test_printed.ensures, omega arith)
 
 pub slice_bounds-deliver-end : goal.slice_bounds-deliver-end
 slice_bounds-deliver-end c =
@@ -30,4 +30,4 @@ returns c =
     let a = c.args in
     let v = verdict_of a.verdict in
     leaves_tested (test_printed v a.d a.n (length a.seed.now)) (answer_text v a.d a.n (counts_in a.counts) a.seed.now) a.out.now
-    c.test_printed-tested.ensures c.if-tested-ne0.false (put_front _ _ c.print_answer-end.ensures.0 c.print_answer-end.ensures.2) c.deliver.ensures
+    c.in_ok-test_printed.ensures (put_front _ _ c.print_answer-end.ensures.0 c.print_answer-end.ensures.2) c.deliver.ensures

@@ -5,12 +5,11 @@ use Prim.Native.Nat.{◌-◌, ◌≤◌}
 use lib.ListN.{length}
 use Rattle.lines.specs.Kinds.{kinds_at}
 use Rattle.market.specs.Passes.{repeat_from}
-use Rattle.repeated.specs.Tables.{Room}
-use Rattle.repeated.proofs.by_blocks.Given as goal
+use Rattle.repeated.proofs.first_repeat.Given as goal
 
 abbrev pub invariant-loop-at : goal.invariant-loop-at
 invariant-loop-at l =
-    Room l.keys l.links l.heads × (l.line ≤ l.at) × (l.at ≤ length l.text)
+    (l.line ≤ l.at) × (l.at ≤ length l.text)
     × (repeat_from [] l.first l.limit (kinds_at l.text l.from) ≡ repeat_from [] l.line l.end (kinds_at l.text l.at))
 
 abbrev pub decreases-loop-at : goal.decreases-loop-at
