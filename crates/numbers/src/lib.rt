@@ -5,8 +5,6 @@ mod pattern; // the root on bit patterns
 mod rows; // which rows of a block are a chunk's
 mod whole; // the root of whole numbers
 
-pub use rows::Rows;
-
 ghost use Rattle.std.specs.Prelude.{◌≡◌};
 ghost use Rattle.std.specs.Float.{binary64};
 ghost use Rattle.definition.specs.Arith.{ieee64};
@@ -16,6 +14,8 @@ ghost use Rattle.definition.specs.ChebyshevRayleighRitz.{next_bound, first_alpha
 ghost use Rattle.definition.specs.OrthonormalizeBlock.{ending};
 ghost use Rattle.definition.specs.SpectralEmbedding.{above_floor, inverse_of, v0_of, scale_of};
 ghost use Rattle.numbers.specs.Answers.{multipliers_of, ending_of, raised, lowered};
+
+pub use rows::Rows;
 
 // The square root of x, rounded to nearest. Of -0 it is -0, and of anything else below zero and of
 // a NaN it is NaN.
