@@ -1,5 +1,5 @@
 -- Roots of whole numbers: the first digits by a loop, as many again by one division, and the rounding. Assumes nothing.
-use Rattle.std.proofs.Common.{◌≡◌, ℕ, zero, suc, ◌+◌, ◌-◌, ◌*◌, ◌/◌, ◌%◌, ◌^◌, ◌<◌, ◌≤◌, sym, ap, ◌∙◌, subst, ⊎_elim, lt_of_lt_of_le, lt_of_le_of_lt, mul-le-mul_right, mod-lt, mul_assoc, div-lt_iff_lt-mul, add-mul, mul-le-mul, mul-le-mul_left, mul-pos, div-add-mod', mul-one, mul-add, mul_right_comm, add-one, arith, lit<, pow_mono, pow-add}
+use Rattle.std.proofs.Common.{◌≡◌, ℕ, zero, suc, ◌+◌, ◌-◌, ◌*◌, ◌/◌, ◌%◌, ◌^◌, ◌<◌, ◌≤◌, sym, ap, ◌∙◌, subst, ⊎_elim, lt_of_lt_of_le, lt_of_le_of_lt, add-zero, mul-le-mul_right, mod-lt, mul_assoc, div-lt_iff_lt-mul, add-mul, mul-le-mul, mul-le-mul_left, mul-pos, div-add-mod', mul-one, mul-add, mul_right_comm, add-one, arith, lit<, pow_mono, pow-add}
 use native.Mathlib.Nat.{mul-mul-mul_comm}
 use Rattle.definition.specs.Root.{Nearest}
 use Rattle.definition.proofs.Tests.{lt_or_ge}
@@ -22,6 +22,9 @@ sq_even q = omega (arith, mul-mul-mul_comm q 2 q 2)
 sq_odd : (q : ℕ) → (q * 2 + 1) * (q * 2 + 1) ≡ 4 * (q * q) + 4 * q + 1
 sq_odd q = omega (arith, mul-add (q * 2 + 1) (q * 2) 1, add-mul (q * 2) 1 (q * 2), sq_even q)
 
+sq_plain : (q : ℕ) → (q * 2 + 0) * (q * 2 + 0) ≡ 4 * (q * q)
+sq_plain q = ap (λ (x : ℕ). x * x) (add-zero (q * 2)) ∙ sq_even q
+
 four_times : (a i : ℕ) → a * 2 ^ (2 * (i + 1)) ≡ 4 * (a * 2 ^ (2 * i))
 four_times a i = ap (λ (j : ℕ). a * 2 ^ (2 * j)) (add-one i) ∙ ap (λ (j : ℕ). a * j) (four_pow i) ∙ omega (arith, mul_assoc a 4 (2 ^ (2 * i)), mul_right_comm a 4 (2 ^ (2 * i)))
 
@@ -43,11 +46,11 @@ module _ (a b q r i : ℕ) (h : Turn a b q r i) (l : i < 7) where
   }
 
   pub turn_even : r * 4 + b / 0x10_0000_0000_0000 < q * 4 + 1
-      → Turn a (b % 0x10_0000_0000_0000 * 4) (q * 2) (r * 4 + b / 0x10_0000_0000_0000) (i + 1)
+      → Turn a (b % 0x10_0000_0000_0000 * 4) (q * 2 + 0) (r * 4 + b / 0x10_0000_0000_0000 - 0) (i + 1)
   turn_even g = record {
     turns = omega arith;
     coming = omega arith;
-    brought = omega (arith, sq_even q, four_times a i, h.brought, h.coming);
+    brought = omega (arith, sq_plain q, four_times a i, h.brought, h.coming);
     rest = omega (arith, h.rest, h.coming);
     few = omega (arith, twice_pow i, h.few);
   }
@@ -123,17 +126,26 @@ module _ (s r b y : ℕ) (h : Lengthens s r b y) where
         whole = omega arith;
       }
 
-  pub exact : quotient * quotient ≤ left → Floored ((s * s + r) * (b * b) + y) raw (left - quotient * quotient)
-  exact g = let d = divided in let w = d.whole in record { whole = omega arith; rest = omega (arith, d.left_most) }
+  -- the root lowered by `less` and what is left raised by `more`
+  pub record Ended (less more : ℕ) : Type 0 where
+    pub lowered : less ≤ raw
+    pub narrow : left + more < 2 ^ 64
+    pub enough : quotient * quotient ≤ left + more
+    pub root : Floored ((s * s + r) * (b * b) + y) (raw - less) (left + more - quotient * quotient)
 
-  -- the root lowered by one, and what is left raised by as much as its square falls
-  pub record Ended : Type 0 where
-    pub lowered : 1 ≤ raw
-    pub narrow : left + (raw * 2 - 1) < 2 ^ 64
-    pub enough : quotient * quotient ≤ left + (raw * 2 - 1)
-    pub root : Floored ((s * s + r) * (b * b) + y) (raw - 1) (left + (raw * 2 - 1) - quotient * quotient)
+  pub exact : quotient * quotient ≤ left → Ended 0 0
+  exact g =
+      let d = divided in
+      let w = d.whole in
+      let e : raw - 0 ≡ raw = omega arith in
+      record {
+        lowered = omega arith;
+        narrow = omega arith;
+        enough = omega arith;
+        root = record { whole = ap (λ (q : ℕ). q * q + (left + 0 - quotient * quotient)) e ∙ omega arith; rest = omega (arith, d.left_most) };
+      }
 
-  pub corrected : left < quotient * quotient → Ended
+  pub corrected : left < quotient * quotient → Ended 1 (raw * 2 - 1)
   corrected g =
       let d = divided in
       let w = d.whole in

