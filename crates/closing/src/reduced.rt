@@ -18,16 +18,16 @@ pub struct Partials<'a> {
 }
 
 impl<'a> Partials<'a> {
-    // The totals of a stage that writes `width` numbers a chunk; zeros behind them.
-    pub fn totals(self, width: usize) -> [f64; 225]
+    // The totals of a stage that writes `width` numbers a chunk, put into `totals`, whatever stood there; zeros behind them.
+    // Put into lent memory and not answered, as the scales are: closing would keep four arrays more (BYTES bytes of stack, measured; the
+    // header promises 56,000).
+    pub fn totals(self, width: usize, totals: &mut [f64; 225])
         requires { width ≤ wide (asked_in self.asked) * wide (asked_in self.asked) }
-        ensures { result ≡ totals_of ieee64 (asked_in self.entry.asked) width self.entry.numbers.now }
+        ensures { totals.new ≡ totals_of ieee64 (asked_in self.entry.asked) width self.entry.numbers.now }
     {
         let asked = self.asked;
-        let mut totals = [0.0; 225];
         let chunks = input::chunk_count(asked.rows);
-        sums::totals(chunks, asked.width(), width, self.numbers, &mut totals);
-        totals
+        sums::totals(chunks, asked.width(), width, self.numbers, totals);
     }
 
     // The norm of the column whose squares were summed.
@@ -40,16 +40,15 @@ impl<'a> Partials<'a> {
     }
 
     // Each column's scale in place of its sum of squares.
-    pub fn scales(self) -> [f64; 225]
-        ensures { result ≡ scales_of ieee64 (asked_in self.entry.asked) self.entry.numbers.now }
+    pub fn scales(self, scales: &mut [f64; 225])
+        ensures { scales.new ≡ scales_of ieee64 (asked_in self.entry.asked) self.entry.numbers.now }
     {
         let rows = self.asked.rows;
         let dims = self.asked.dims;
         let target = self.asked.seed_std;
-        let mut scales = self.totals(dims);
+        self.totals(dims, scales);
         for c in 0..dims {
             scales[c] = columns::output::column_scale(rows, target, scales[c]);
         }
-        scales
     }
 }
