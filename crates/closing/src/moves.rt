@@ -41,7 +41,7 @@ pub fn with_scales(state: State, partials: Partials<'_>) -> State
         (scales_of ieee64 (asked_in partials.entry.asked) partials.entry.numbers.now) (state_in state) }
 {
     let mut next = moved_to(state, Stage::Scale);
-    partials.scales(&mut next.totals);
+    next.totals = partials.scales();
     next
 }
 

@@ -19,8 +19,8 @@ pub struct Partials<'a> {
 
 impl<'a> Partials<'a> {
     // The totals of a stage that writes `width` numbers a chunk, put into `totals`, whatever stood there; zeros behind them.
-    // Put into lent memory and not answered, as the scales are: closing would keep four arrays more (BYTES bytes of stack, measured; the
-    // header promises 56,000).
+    // Lent and not answered, and here and in moves.rt: with an array answered to `close_stage` for each of its arms, closing took 62,344 bytes
+    // of stack, measured, and the header promises 56,000.
     pub fn totals(self, width: usize, totals: &mut [f64; 225])
         requires { width ≤ wide (asked_in self.asked) * wide (asked_in self.asked) }
         ensures { totals.new ≡ totals_of ieee64 (asked_in self.entry.asked) width self.entry.numbers.now }
@@ -40,15 +40,17 @@ impl<'a> Partials<'a> {
     }
 
     // Each column's scale in place of its sum of squares.
-    pub fn scales(self, scales: &mut [f64; 225])
-        ensures { scales.new ≡ scales_of ieee64 (asked_in self.entry.asked) self.entry.numbers.now }
+    pub fn scales(self) -> [f64; 225]
+        ensures { result ≡ scales_of ieee64 (asked_in self.entry.asked) self.entry.numbers.now }
     {
         let rows = self.asked.rows;
         let dims = self.asked.dims;
         let target = self.asked.seed_std;
-        self.totals(dims, scales);
+        let mut scales = [0.0; 225];
+        self.totals(dims, &mut scales);
         for c in 0..dims {
             scales[c] = columns::output::column_scale(rows, target, scales[c]);
         }
+        scales
     }
 }
