@@ -1,12 +1,14 @@
 // The stages that only move on, and those that take a norm, totals or the isolated rows along.
-ghost use Rattle.std.specs.Prelude.{◌≡◌, ◌≤◌, length};
+ghost use Rattle.std.specs.Prelude.{◌≡◌, ◌*◌, ◌≤◌, length};
 ghost use Rattle.definition.specs.Arith.{ieee64};
 ghost use Rattle.definition.specs.Memory.{vector_of};
 ghost use Rattle.definition.specs.SpectralEmbedding.{isolated_rows, root_norm};
-ghost use Rattle.machine.specs.Closing.{isolated_counted, moved_to, with_norm, with_before, with_progress, with_counts, with_totals};
-ghost use Rattle.state.specs.Said.{progress_in, counts_in, state_in};
+ghost use Rattle.machine.specs.State.{wide};
+ghost use Rattle.machine.specs.Closing.{isolated_counted, totals_of, scales_of, moved_to, with_norm, with_before, with_progress, with_counts, with_totals};
+ghost use Rattle.state.specs.Said.{asked_in, progress_in, counts_in, state_in};
 ghost use Rattle.state.specs.Stages.{number_of};
 
+use crate::reduced::Partials;
 use state::{Counts, Progress, Stage, State};
 
 // To another stage, all else as it is.
@@ -22,14 +24,25 @@ pub fn moved_to(state: State, stage: Stage) -> State
     }
 }
 
-// To another stage, with totals that it reads.
-pub fn with_totals(state: State, stage: Stage, totals: [f64; 225]) -> State
-    ensures { state_in result ≡ with_totals ieee64 (moved_to ieee64 (number_of stage) (progress_in state.progress)) totals (state_in state) }
+// To another stage, with the totals that it reads.
+pub fn with_totals(state: State, stage: Stage, partials: Partials<'_>, width: usize) -> State
+    requires { width ≤ wide (asked_in partials.asked) * wide (asked_in partials.asked) }
+    ensures { state_in result ≡ with_totals ieee64 (moved_to ieee64 (number_of stage) (progress_in state.progress))
+        (totals_of ieee64 (asked_in partials.entry.asked) width partials.entry.numbers.now) (state_in state) }
 {
-    State {
-        totals,
-        ..moved_to(state, stage)
-    }
+    let mut next = moved_to(state, stage);
+    partials.totals(width, &mut next.totals);
+    next
+}
+
+// To the last stage that works, with the scales of the output's columns.
+pub fn with_scales(state: State, partials: Partials<'_>) -> State
+    ensures { state_in result ≡ with_totals ieee64 (moved_to ieee64 19 (progress_in state.progress))
+        (scales_of ieee64 (asked_in partials.entry.asked) partials.entry.numbers.now) (state_in state) }
+{
+    let mut next = moved_to(state, Stage::Scale);
+    next.totals = partials.scales();
+    next
 }
 
 // Degrees: the norm of the roots, which the v0 stage divides by, and how many rows are isolated by theirs.

@@ -63,7 +63,8 @@ pub fn close_products(state: State, partials: Partials<'_>, ritz_record: &mut [f
     let asked = state.asked;
     let p = state.progress;
     let k = asked.width();
-    let products = partials.totals(k * k);
+    let mut products = [0.0; 225];
+    partials.totals(k * k, &mut products);
     let mut matrix = products;
     ritz::symmetrize(&mut matrix, k);
     let mut vectors = [0.0; 225];

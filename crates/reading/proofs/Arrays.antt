@@ -5,7 +5,7 @@ use Prim.Native.Nat.{ℕ, zero, suc, ◌+◌, ◌-◌, ◌≤◌, ◌<◌}
 use native.Mathlib.Nat.{sub-zero}
 use native.Mathlib.Numerals.{add-one}
 use native.Mathlib.Omega.{arith}
-use lib.Ieee.{Float, nan, of_bits, binary64}
+use lib.Ieee.{Float, of_bits, binary64}
 use lib.ListN.{length, get_or, take, drop, set, replicate}
 use lib.Seq.{take-suc, take-suc-set, take_all}
 use Rattle.reading.specs.ReadLine.{Found, found, none}
@@ -77,11 +77,18 @@ pub copy_all : (source copy : List ℕ) (i : ℕ) → length source ≤ i → le
 copy_all source copy i p q e = sym (take_all i copy q) ∙ e ∙ take_all i source p
 
 -- ---- and as floats
-pub floats_mapped : (bits : List ℕ) (values : List Float) → length values ≡ length bits
-    → ((i : ℕ) → i < length bits → get_or values i nan ≡ of_bits binary64 (get_or bits i 0)) → values ≡ floats_of bits
+floats_more : (vs : List ℕ) (v : ℕ) → floats_of (vs ++ (v ∷ [])) ≡ floats_of vs ++ (of_bits binary64 v ∷ [])
 unfolding floats_of
-floats_mapped [] [] n h = refl
-floats_mapped [] (x ∷ xs) n h = absurd (omega arith)
-floats_mapped (b ∷ bs) [] n h = absurd (omega arith)
-floats_mapped (b ∷ bs) (x ∷ xs) n h =
-    ap₂ (λ (y : Float) (l : List Float). y ∷ l) (h 0 (omega arith)) (floats_mapped bs xs (omega arith) (λ i p. h (suc i) (omega arith)))
+floats_more [] v = refl
+floats_more (w ∷ vs) v = ap (λ (l : List Float). of_bits binary64 w ∷ l) (floats_more vs v)
+
+pub floats_step : (bits : List ℕ) (values : List Float) (i : ℕ) (x : Float) → i < length bits → i < length values
+    → take i values ≡ floats_of (take i bits) → x ≡ of_bits binary64 (get_or bits i 0) → take (i + 1) (set values i x) ≡ floats_of (take (i + 1) bits)
+floats_step bits values i x p q e h =
+    ap (λ (n : ℕ). take n (set values i x)) (add-one i) ∙ take-suc-set values i x q
+    ∙ ap₂ (λ (l : List Float) (y : Float). l ++ (y ∷ [])) e h ∙ sym (floats_more (take i bits) (get_or bits i 0))
+    ∙ ap floats_of (sym (take-suc bits i 0 p)) ∙ ap (λ (n : ℕ). floats_of (take n bits)) (sym (add-one i))
+
+pub floats_all : (bits : List ℕ) (values : List Float) (i : ℕ) → length bits ≤ i → length values ≤ i → take i values ≡ floats_of (take i bits)
+    → values ≡ floats_of bits
+floats_all bits values i p q e = sym (take_all i values q) ∙ e ∙ ap floats_of (take_all i bits p)

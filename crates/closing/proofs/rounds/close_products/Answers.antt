@@ -26,5 +26,5 @@ pub returns-clause-result_value : goal.returns-clause-result_value
 unfolding symmetric_in eigen_matrix eigen_vectors order_in
 returns-clause-result_value c =
     let k = c.width-k.ensures in
-    round_made ieee64 _ _ (rw (c.requires.asked_same, k) at c.totals-products.ensures) (rw k at c.symmetrize.ensures) (rw k at c.jacobi_in_place.ensures.matrix_after)
+    round_made ieee64 _ _ (rw (c.requires.asked_same, k) at c.totals.ensures) (rw k at c.symmetrize.ensures) (rw k at c.jacobi_in_place.ensures.matrix_after)
     (rw k at c.jacobi_in_place.ensures.vectors_after) (rw k at c.ritz_order-order.ensures) c.after_products-progress.ensures

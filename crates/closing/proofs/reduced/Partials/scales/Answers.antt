@@ -12,7 +12,7 @@ use Rattle.closing.proofs.Room.{totals-room}
 use Rattle.closing.proofs.reduced.Partials.scales.Goals as goal
 
 pub loop-c-init : goal.loop-c-init
-loop-c-init c = (omega arith, totals-room ieee64 _ _ _ c.totals-scales.ensures, fill_start _ _ _)
+loop-c-init c = (omega arith, totals-room ieee64 _ _ _ c.totals.ensures, fill_start _ _ _)
 
 pub loop-c-preserved : goal.loop-c-preserved
 loop-c-preserved c =
@@ -28,4 +28,4 @@ unfolding scales_of narrowed
 returns c =
     let s = c.args.self.asked in
     fill_to _ _ _ c.loop-c.invariant.2 (omega arith)
-    ∙ ap (λ (l : List Float). fill_range 0 s.dims (λ j. scale_of ieee64 s.seed_std (spread ieee64 s.rows (vector_of nan l j))) l) c.totals-scales.ensures
+    ∙ ap (λ (l : List Float). fill_range 0 s.dims (λ j. scale_of ieee64 s.seed_std (spread ieee64 s.rows (vector_of nan l j))) l) c.totals.ensures
