@@ -74,7 +74,8 @@ fn counts_sound(a: Sound, counts: Counts) -> bool
     let passes = a.asked.rounds * (a.asked.degree + 1);
     let columns = a.asked.rounds * a.asked.width();
     counts.passes <= passes
-        && (counts.refreshed <= columns && (counts.zeroed <= columns && counts.isolated <= a.asked.rows))
+        && (counts.refreshed <= columns
+            && (counts.zeroed <= columns && counts.isolated <= a.asked.rows))
 }
 
 // Every Ritz place below k.

@@ -65,7 +65,8 @@ pub fn rows_sound(
     let starts = graph.starts;
     match Stage::from(stage) {
         Stage::Degrees => starts_sound(a.asked, h, starts),
-        Stage::Edges => starts_sound(a.asked, h, starts) && columns_sound(a, h, starts, graph.columns),
+        Stage::Edges => starts_sound(a.asked, h, starts)
+            && columns_sound(a, h, starts, graph.columns),
         Stage::FilterPass | Stage::PlainPass => {
             starts_sound(a.asked, h, starts) && columns_sound(a, h, starts, memory.edge_columns)
         }
@@ -81,7 +82,7 @@ fn lists_enough(a: Asked, graph: Graph<'_>) -> bool
         && (a.entries <= graph.columns.len() && a.entries <= graph.values.len())
 }
 
-// And so is lent memory 0 to 10.
+// All lists are: the graph's, and lent memory 0 to 10.
 pub fn lists_sound(
     a: Sound,
     graph: Graph<'_>,
@@ -94,5 +95,6 @@ pub fn lists_sound(
 {
     let asked = a.asked;
     let lengths = memory.lengths(marks, ritz_record);
-    lists_enough(asked, graph) && input::test_lent(asked.dims, asked.rounds, asked.rows, asked.entries, lengths).is_ok()
+    lists_enough(asked, graph)
+        && input::test_lent(asked.dims, asked.rounds, asked.rows, asked.entries, lengths).is_ok()
 }
