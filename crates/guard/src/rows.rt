@@ -82,7 +82,7 @@ fn lists_enough(a: Asked, graph: Graph<'_>) -> bool
         && (a.entries <= graph.columns.len() && a.entries <= graph.values.len())
 }
 
-// And so is lent memory 0 to 10.
+// All lists are: the graph's, and lent memory 0 to 10.
 pub fn lists_sound(
     a: Sound,
     graph: Graph<'_>,

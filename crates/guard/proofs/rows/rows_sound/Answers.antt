@@ -3,9 +3,7 @@ use mathlib.Core.Path.{◌≡◌, sym, ◌∙◌}
 use mathlib.Core.Logic.{◌⊎◌, inl, inr, ⊎_elim}
 use native.Mathlib.Omega.{arith}
 use Rattle.ready.proofs.Tested.{starts_ready}
-use Rattle.state.specs.declared.stage.Stage.{Stage}
 use Rattle.state.specs.declared.stage.Stage.TheVariants as at
-use Rattle.state.specs.Stages.{StageAt}
 use Rattle.state.specs.Said.{asked_in}
 use Rattle.guard.proofs.Chains.{failed, passed}
 use Rattle.guard.proofs.Stages.{its_number, its_name, tests_starts, tests_columns, tests_edges, tests_none}
