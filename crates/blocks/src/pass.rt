@@ -19,11 +19,8 @@ use rows::Operator;
 #[derive(Clone, Copy)]
 pub struct Edges<'a> {
     pub chunk: Chunk,
-    pub starts: &'a [u64],
-    pub columns: &'a [u32],
-    pub weights: &'a [f64],
-    pub inverse: &'a [f64],
-    ghost ready: { EdgesReady (asked_in chunk.asked) chunk.number starts.now columns.now weights.now inverse.now },
+    pub op: Operator<'a>,
+    ghost ready: { EdgesReady (asked_in chunk.asked) chunk.number op.starts.now op.columns.now op.weights.now op.inverse.now },
 }
 
 pub fn start_stage(chunk: Chunk, block0: &mut [f64])
@@ -49,21 +46,15 @@ fn pass_block(
     ensures { let e = edges.entry in let b = blocks.entry in let n = e.chunk.asked.rows in let k = wide (asked_in e.chunk.asked) in
         out.new ≡ fill_where (own_place n k e.chunk.number)
         (combined_at ieee64 n k
-        (operator_of ieee64 e.starts.now e.columns.now e.weights.now e.inverse.now) (multipliers_of by)
+        (operator_of ieee64 e.op.starts.now e.op.columns.now e.op.weights.now e.op.inverse.now) (multipliers_of by)
         (chosen e.chunk.progress.current b.block0.now b.block1.now b.block2.now)
         (chosen previous b.block0.now b.block1.now b.block2.now)) out.old }
 {
     let chunk = edges.chunk;
-    let op = Operator {
-        starts: edges.starts,
-        columns: edges.columns,
-        weights: edges.weights,
-        inverse: edges.inverse,
-    };
     rows::matvec_combine(
         chunk.rows(),
         by,
-        op,
+        edges.op,
         blocks.pick(chunk.progress.current),
         blocks.pick(previous),
         out,
@@ -83,9 +74,9 @@ pub fn pass_stage(
     requires previous_bound { previous < 3 }
     requires blocks_ready { BlocksReady (asked_in edges.chunk.asked) block0.old block1.old block2.old }
     ensures { let e = edges.entry in (columns : List ℕ) (values v0 partials output : List Float) →
-        lent_in e.inverse.now v0 e.columns.now e.weights.now block0.new block1.new block2.new partials output
-        ≡ pass_work ieee64 (asked_in e.chunk.asked) (multipliers_of by) e.chunk.progress.current previous (lists_in e.starts.now columns values) e.chunk.number
-        (lent_in e.inverse.now v0 e.columns.now e.weights.now block0.old block1.old block2.old partials output) }
+        lent_in e.op.inverse.now v0 e.op.columns.now e.op.weights.now block0.new block1.new block2.new partials output
+        ≡ pass_work ieee64 (asked_in e.chunk.asked) (multipliers_of by) e.chunk.progress.current previous (lists_in e.op.starts.now columns values) e.chunk.number
+        (lent_in e.op.inverse.now v0 e.op.columns.now e.op.weights.now block0.old block1.old block2.old partials output) }
 {
     let chunk = edges.chunk;
     match state::free_block(chunk.progress.current, previous) {

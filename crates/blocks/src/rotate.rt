@@ -6,6 +6,7 @@ ghost use Rattle.machine.specs.Work.{rotate_work};
 ghost use Rattle.state.specs.Said.{asked_in, progress_in, lent_in};
 
 use crate::choice::Blocks;
+use columns::output::Ritz;
 use numbers::Rows;
 
 // The current block turned onto the first D Ritz vectors, and unscaled. One lifetime for vectors and
@@ -30,13 +31,11 @@ pub fn rotate_stage<'a>(
         width: asked.dims,
         ..chunk.rows()
     };
-    columns::output::rotate_chunk(
-        own,
-        asked.width(),
-        blocks.pick(chunk.progress.current),
+    let ritz = Ritz {
+        k: asked.width(),
         vectors,
         order,
-        inverse,
-        output,
-    );
+    };
+    let v = blocks.pick(chunk.progress.current);
+    columns::output::rotate_chunk(own, ritz, v, inverse, output);
 }

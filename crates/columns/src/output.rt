@@ -5,13 +5,22 @@ ghost use Rattle.std.specs.Float.{nan};
 ghost use Rattle.definition.specs.Arith.{ieee64};
 ghost use Rattle.definition.specs.Memory.{place, vector_of, block_of, number_at, fill_range};
 ghost use Rattle.definition.specs.Numbers.{dims_most, rows_most};
-ghost use Rattle.definition.specs.Requirements.{Columns};
+ghost use Rattle.definition.specs.Requirements.{Columns, Span};
 ghost use Rattle.definition.specs.ChunkedColumnReduce.{sum_up};
 ghost use Rattle.definition.specs.ChebyshevRayleighRitz.{rotated};
 ghost use Rattle.definition.specs.SpectralEmbedding.{unscaled, centred, scaled, spread, scale_of};
 ghost use Rattle.columns.specs.Rows.{Output, Turned, shifted};
 
 use numbers::Rows;
+
+// The Ritz vectors, k by k, and the columns of them that are taken, in their order. One lifetime for both, which a caller may
+// keep in one record.
+#[derive(Clone, Copy)]
+pub struct Ritz<'a> {
+    pub k: usize,
+    pub vectors: &'a [f64; 225],
+    pub order: &'a [usize; 15],
+}
 
 // A row of the basis times column q of the vectors, upward from +0.
 fn turned_number(k: usize, row: &[f64], vectors: &[f64; 225], q: usize) -> f64
@@ -27,93 +36,52 @@ fn turned_number(k: usize, row: &[f64], vectors: &[f64; 225], q: usize) -> f64
 
 // One row of output, at `at`: the row of the basis turned onto the first d Ritz vectors, times the
 // row's inverse weight. By index: j is a place of `order` and one of the row (reason d).
-fn rotate_row(
-    k: usize,
-    d: usize,
-    row: &[f64],
-    vectors: &[f64; 225],
-    order: &[usize; 15],
-    weight: f64,
-    at: usize,
-    part: &mut [f64],
-)
-    requires k_bound { (k ≤ 15) × (d ≤ k) × (k ≤ length row.now) × (at + d ≤ length part.old) }
-    requires columns { Columns order.now 0 d k }
-    ensures { part.new ≡ fill_range at (at + d)
-        (λ p. ieee64.mul (rotated ieee64 k (λ r. vector_of nan row.now) (block_of nan k k vectors.now) order.now 0 (p - at)) weight)
+fn rotate_row(ritz: Ritz<'_>, d: usize, row: &[f64], weight: f64, at: usize, part: &mut [f64])
+    requires k_bound { (ritz.k ≤ 15) × (d ≤ ritz.k) × (ritz.k ≤ length row.now) × (at + d ≤ length part.old) }
+    requires columns { Columns ritz.order.now 0 d ritz.k }
+    ensures { let k = ritz.entry.k in part.new ≡ fill_range at (at + d)
+        (λ p. ieee64.mul (rotated ieee64 k (λ r. vector_of nan row.now) (block_of nan k k ritz.entry.vectors.now) ritz.entry.order.now 0 (p - at)) weight)
         part.old }
 {
+    let Ritz { k, vectors, order } = ritz;
     for j in 0..d {
         part[at + j] = turned_number(k, row, vectors, order[j]) * weight;
     }
 }
 
-// The same in the rows from `first` on.
-pub fn rotate_rows(
-    n: usize,
-    k: usize,
-    d: usize,
-    first: usize,
-    rows: usize,
-    v: &[f64],
-    vectors: &[f64; 225],
-    order: &[usize; 15],
-    inverse: &[f64],
-    part: &mut [f64],
-)
-    requires turned { Turned n k d v.now inverse.now order.now }
-    requires rows_bound { (first + rows ≤ n) × (rows * d ≤ length part.old) }
-    ensures { part.new ≡ fill_range 0 (place rows d rows 0)
-        (number_at rows d (shifted first (unscaled ieee64 (vector_of nan inverse.now)
-        (rotated ieee64 k (block_of nan n k v.now) (block_of nan k k vectors.now) order.now))))
+// The same in the chunk's rows: `part` begins at the first.
+pub fn rotate_rows(own: Rows, ritz: Ritz<'_>, v: &[f64], inverse: &[f64], part: &mut [f64])
+    requires turned { Turned own.n ritz.k own.width v.now inverse.now ritz.order.now }
+    requires span { Span own.first own.end own.n }
+    requires part_enough { (own.end - own.first) * own.width ≤ length part.old }
+    ensures { let k = ritz.entry.k in let d = own.width in let rows = own.end - own.first in part.new ≡ fill_range 0 (place rows d rows 0)
+        (number_at rows d (shifted own.first (unscaled ieee64 (vector_of nan inverse.now)
+        (rotated ieee64 k (block_of nan own.n k v.now) (block_of nan k k ritz.entry.vectors.now) ritz.entry.order.now))))
         part.old }
 {
+    let k = ritz.k;
+    let d = own.width;
+    let rows = own.end - own.first;
     for r in 0..rows {
-        let i = first + r;
+        let i = own.first + r;
         let a = i * k;
         let e = a + k;
-        rotate_row(k, d, &v[a..e], vectors, order, inverse[i], r * d, part);
+        rotate_row(ritz, d, &v[a..e], inverse[i], r * d, part);
     }
 }
 
-// The same in a chunk of the output, of a basis of k columns. One lifetime for vectors and order, which
-// a caller may keep in one record.
-pub fn rotate_chunk<'a>(
-    own: Rows,
-    k: usize,
-    v: &[f64],
-    vectors: &'a [f64; 225],
-    order: &'a [usize; 15],
-    inverse: &[f64],
-    output: &mut [f64],
-)
+// The same in a chunk of the output.
+pub fn rotate_chunk(own: Rows, ritz: Ritz<'_>, v: &[f64], inverse: &[f64], output: &mut [f64])
     requires output { Output own.n own.width own.first own.end output.old }
-    requires turned { Turned own.n k own.width v.now inverse.now order.now }
-    ensures { let n = own.n in let d = own.width in output.new ≡ fill_range (place n d own.first 0) (place n d own.end 0)
+    requires turned { Turned own.n ritz.k own.width v.now inverse.now ritz.order.now }
+    ensures { let k = ritz.entry.k in let n = own.n in let d = own.width in output.new ≡ fill_range (place n d own.first 0) (place n d own.end 0)
         (number_at n d (unscaled ieee64 (vector_of nan inverse.now)
-        (rotated ieee64 k (block_of nan n k v.now) (block_of nan k k vectors.now) order.now)))
+        (rotated ieee64 k (block_of nan n k v.now) (block_of nan k k ritz.entry.vectors.now) ritz.entry.order.now)))
         output.old }
 {
-    let Rows {
-        n,
-        width: d,
-        first,
-        end,
-    } = own;
-    let a = first * d;
-    let e = end * d;
-    rotate_rows(
-        n,
-        k,
-        d,
-        first,
-        end - first,
-        v,
-        vectors,
-        order,
-        inverse,
-        &mut output[a..e],
-    );
+    let a = own.first * own.width;
+    let e = own.end * own.width;
+    rotate_rows(own, ritz, v, inverse, &mut output[a..e]);
 }
 
 // The mean of each of the d columns. By index: two cut lists side by side are no plainer (reason d).

@@ -15,6 +15,7 @@ ghost use Rattle.stages.specs.Parts.{parts_of};
 
 use blocks::{Blocks, Chunk, Edges};
 use input::Graph;
+use rows::Operator;
 use state::{Asked, Memory, Progress, Stage};
 
 // A state by the parts that some stage reads, where they lie, so that no call copies a matrix.
@@ -89,13 +90,13 @@ fn stage_work<'a, 'g>(
         Stage::V0 => setup::v0_stage(asked, progress.norm, h, v0),
         Stage::StartBlock => blocks::start_stage(chunk, block0),
         Stage::FilterPass => {
-            let edges = Edges {
-                chunk,
+            let op = Operator {
                 starts,
                 columns: &edge_columns[..],
                 weights: &edge_weights[..],
                 inverse: &inverse[..],
             };
+            let edges = Edges { chunk, op };
             let by = passes::filter_by(progress);
             let previous = progress.previous;
             blocks::pass_stage(edges, by, previous, block0, block1, block2)
@@ -108,13 +109,13 @@ fn stage_work<'a, 'g>(
         Stage::Write => blocks::write_stage(chunk, block0, block1, block2),
         Stage::PlainPass => {
             // The current block stands for both.
-            let edges = Edges {
-                chunk,
+            let op = Operator {
                 starts,
                 columns: &edge_columns[..],
                 weights: &edge_weights[..],
                 inverse: &inverse[..],
             };
+            let edges = Edges { chunk, op };
             let by = numbers::plain_multipliers();
             blocks::pass_stage(edges, by, progress.current, block0, block1, block2)
         }

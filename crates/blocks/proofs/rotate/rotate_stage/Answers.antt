@@ -20,7 +20,7 @@ rotate_chunk-requires c =
       turned = record {
         most = (asked-width r).most;
         narrow = omega arith;
-        basis = chosen-enough _ b.ready c.pick.ensures;
+        basis = chosen-enough _ b.ready c.pick-v.ensures;
         weights = c.requires.rows_in_bounds.0;
         columns = record { below = λ j p q. c.requires.by_index j (omega (arith, q, r.dims-most)) };
       };
@@ -32,4 +32,4 @@ returns c =
     λ v0 columns weights partials.
     rotate_lent (asked_in b.chunk.asked) (progress_in b.chunk.progress) b.chunk.number
     (lent_in c.args.inverse.now v0 columns weights b.block0.now b.block1.now b.block2.now partials c.args.output.now)
-    c.args.vectors.now c.args.order.now c.rows.ensures.first c.rows.ensures.end b.chunk.asked_ready.dims-least c.pick.ensures (rw (c.rows.ensures.n, c.width.ensures) at c.rotate_chunk.ensures)
+    c.args.vectors.now c.args.order.now c.rows.ensures.first c.rows.ensures.end b.chunk.asked_ready.dims-least c.pick-v.ensures (rw (c.rows.ensures.n, c.width.ensures) at c.rotate_chunk.ensures)

@@ -8,4 +8,4 @@ use Rattle.columns.specs.Rows.{shifted}
 use Rattle.columns.proofs.output.rotate_rows.Given as goal
 
 abbrev pub invariant-loop-r : goal.invariant-loop-r
-invariant-loop-r l = Turn l.rows l.d (shifted l.first (unscaled ieee64 (vector_of nan l.inverse) (rotated ieee64 l.k (block_of nan l.n l.k l.v) (block_of nan l.k l.k l.vectors) l.order))) l.initial.part l.r l.part
+invariant-loop-r l = Turn l.rows l.d (shifted l.own.first (unscaled ieee64 (vector_of nan l.inverse) (rotated ieee64 l.k (block_of nan l.own.n l.k l.v) (block_of nan l.k l.k l.ritz.vectors.now) l.ritz.order.now))) l.initial.part l.r l.part

@@ -1,10 +1,6 @@
 -- The parts that were lent are put back.
-use mathlib.Core.Path.{◌≡◌, refl, sym, ◌∙◌}
-use Prim.Native.Nat.{◌+◌, ◌-◌}
-use native.Mathlib.Omega.{arith}
-use lib.ListN.{length, take, drop}
+use mathlib.Core.Path.{refl}
 use Rattle.definition.proofs.Fill.{fill_part}
-use Rattle.definition.proofs.Parts.{part_length}
 use Rattle.rows.proofs.degrees.degrees_chunk.Goals as goal
 
 pub returns : goal.returns

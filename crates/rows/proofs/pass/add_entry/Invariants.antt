@@ -1,6 +1,6 @@
 -- The loop's invariant: the numbers so far are added to, and the others are as they were.
 use mathlib.Core.Path.{◌≡◌}
-use Prim.Native.Nat.{◌≤◌, ◌-◌, ◌+◌}
+use Prim.Native.Nat.{◌≤◌, ◌+◌}
 use Rattle.definition.specs.Arith.{ieee64}
 use Rattle.definition.specs.Memory.{fill_range, vector_of}
 use Rattle.rows.proofs.pass.add_entry.Given as goal

@@ -4,7 +4,7 @@ use lib.ListN.{replicate}
 use Rattle.definition.specs.Arith.{ieee64}
 use Rattle.definition.specs.Memory.{block_of}
 use Rattle.definition.proofs.Fill.{fill_cong}
-use Rattle.rows.proofs.Passes.{own-entries, own-gathered}
+use Rattle.rows.proofs.Passes.{own-gathered}
 use Rattle.rows.proofs.pass.gather.Goals as goal
 
 pub returns : goal.returns

@@ -1,10 +1,8 @@
 use mathlib.Core.Path.{◌≡◌, sym, ◌∙◌}
-use Prim.Native.Nat.{◌≤◌, ◌*◌, ◌+◌}
 use native.Mathlib.Omega.{arith}
-use lib.ListN.{length, get_or, get_or-replicate}
+use lib.ListN.{length, get_or-replicate}
 use Rattle.definition.specs.Arith.{ieee64}
 use Rattle.definition.proofs.Fill.{fill_same, fill_again}
-use Rattle.definition.proofs.Places.{row_end}
 use Rattle.rows.proofs.Passes.{gathered_none, gathered-more}
 use Rattle.rows.proofs.pass.gather_entries.Goals as goal
 use Rattle.rows.proofs.pass.gather_entries.Goals.{In-loop-p}

@@ -1,10 +1,6 @@
 -- The part that was lent is put back.
 use mathlib.Core.Path.{refl}
-use Prim.Native.Nat.{◌*◌}
-use native.Mathlib.Omega.{arith}
-use lib.ListN.{length}
-use Rattle.definition.specs.Requirements.{Span}
-use Rattle.definition.proofs.Blocks.{span-places, rows-length, rows_back}
+use Rattle.definition.proofs.Blocks.{rows_back}
 use Rattle.rows.proofs.pass.matvec_combine.Goals as goal
 use Rattle.rows.proofs.pass.matvec_combine.Goals.{Start}
 

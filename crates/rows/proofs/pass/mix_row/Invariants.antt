@@ -1,6 +1,6 @@
 -- The loop's invariant: the numbers so far are mixed.
 use mathlib.Core.Path.{◌≡◌}
-use Prim.Native.Nat.{◌≤◌, ◌-◌, ◌+◌}
+use Prim.Native.Nat.{◌≤◌, ◌+◌}
 use lib.ListN.{length, replicate}
 use Rattle.definition.specs.Arith.{ieee64}
 use Rattle.definition.specs.MatvecCombine.{mixed_with, shifted}

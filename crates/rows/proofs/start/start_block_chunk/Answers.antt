@@ -1,11 +1,6 @@
 -- The part that was lent is put back.
-use Prim.Native.Nat.{◌*◌}
-use native.Mathlib.Omega.{arith}
-use lib.ListN.{length}
 use Rattle.definition.specs.Arith.{ieee64}
-use Rattle.definition.specs.Requirements.{Span}
-use Rattle.definition.proofs.Parts.{part_length}
-use Rattle.definition.proofs.Blocks.{span-places, rows_back}
+use Rattle.definition.proofs.Blocks.{rows_back}
 use Rattle.rows.proofs.Starting.{start-at}
 use Rattle.rows.proofs.start.start_block_chunk.Goals as goal
 use Rattle.rows.proofs.start.start_block_chunk.Goals.{Start}
