@@ -8,7 +8,7 @@ ghost use Rattle.machine.specs.Progress.{round_stages, in_round, run_stages, clo
 ghost use Rattle.state.specs.Said.{asked_in, progress_in, state_in};
 ghost use Rattle.guard.specs.Counted.{Counted, Begun, stages_most};
 
-use crate::ranges::{Sound, state_sound};
+use crate::ranges::{Sound, fields_sound};
 use state::{Progress, Stage, State};
 
 // The numbers of the stages with which a group of them begins. Stages that follow one another have numbers that do, so that a group's are
@@ -74,16 +74,16 @@ fn closed_stages(a: Sound, p: Progress, refreshed: usize) -> usize
     after_rounds(a, p.round, refreshed, i)
 }
 
-fn has_run(state: State) -> bool
-    ensures { result ≡ (state_sound ieee64 (state_in state) && not (eqb state.progress.stage 0)) }
+fn has_run(state: &State) -> bool
+    ensures { result ≡ (state_sound ieee64 (state_in state.now) && not (eqb state.now.progress.stage 0)) }
 {
-    state_sound(state) && state.progress.stage != EMPTY
+    fields_sound(state) && state.progress.stage != EMPTY
 }
 
 pub fn calls_accepted(state: State) -> usize
     ensures { result ≡ calls_accepted ieee64 (state_in state) }
 {
-    if !has_run(state) {
+    if !has_run(&state) {
         return 0;
     }
     let a = Sound { asked: state.asked };
@@ -96,7 +96,7 @@ pub fn calls_accepted(state: State) -> usize
 pub fn calls_owed(state: State) -> usize
     ensures { result ≡ calls_owed ieee64 (state_in state) }
 {
-    if !has_run(state) {
+    if !has_run(&state) {
         return 0;
     }
     let a = Sound { asked: state.asked };
