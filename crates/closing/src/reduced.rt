@@ -19,8 +19,8 @@ pub struct Partials<'a> {
 
 impl<'a> Partials<'a> {
     // The totals of a stage that writes `width` numbers a chunk, put into `totals`, whatever stood there; zeros behind them.
-    // Lent and not answered, and here and in moves.rt: with an array answered to `close_stage` for each of its arms, closing took 62,344 bytes
-    // of stack, measured, and the header promises 56,000.
+    // Lent and not answered: with an array answered to `close_stage` in each of its arms a C program's closing took 62,344 bytes of stack, and
+    // takes 55,144, measured; bindings/c/stack.c allows 56,000.
     pub fn totals(self, width: usize, totals: &mut [f64; 225])
         requires { width ≤ wide (asked_in self.asked) * wide (asked_in self.asked) }
         ensures { totals.new ≡ totals_of ieee64 (asked_in self.entry.asked) width self.entry.numbers.now }

@@ -241,7 +241,7 @@ fn faulty(line: u64) -> RunFile
 
 // Lines 6 and 7, and nothing behind them. The starts are read: `count` of them, and zeros.
 // This and `read_lists` answer the file itself: a `Result` of it is copied at each level. With it, and `map` above, a C program's call took
-// 109,080 bytes of stack, and takes 51,192, measured; the header promises 56,000.
+// 109,080 bytes of stack, and takes 51,192, measured; bindings/c/stack.c allows 56,000.
 fn read_entries(bytes: &[u8], head: Head, count: usize, starts: [u64; 65], from: usize) -> RunFile
     requires { Inside bytes.now from }
     ensures { (vs : List ℕ) → count ≡ length vs → starts ≡ padded starts_most vs → result ≡ record_of (read_entries bytes.now head.d head.rounds head.degree head.seed vs from) }
