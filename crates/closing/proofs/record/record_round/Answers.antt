@@ -28,9 +28,6 @@ returns c =
     (fill_step first first _ _ (omega arith) (fill_start _ _ _) (rw sub_self)) c.loop-j.invariant.2 (λ p u v. refl))
     (omega arith)
 
-pub ritz_value-requires : goal.ritz_value-requires
-ritz_value-requires c = record { width = c.requires.width; p_lt_k = c.requires.by_index c.loop-j.j c.loop-j-test.true }
-
 pub bounds-ritz_record-first-in-loop-j : goal.bounds-ritz_record-first-in-loop-j
 bounds-ritz_record-first-in-loop-j c = omega (arith, long (goal.at.bounds-ritz_record-first-in-loop-j c).At-loop-j)
 
