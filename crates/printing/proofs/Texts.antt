@@ -1,13 +1,10 @@
--- How long each text is, and its steps; the bits of a NaN. Assumes nothing.
-use mathlib.Core.Path.{◌≡◌, refl, sym, ap, subst, ◌∙◌}
-use mathlib.Core.Bool.{Bool, true, false, not, false≢true}
+-- How long each text is, and its steps. Assumes nothing.
+use mathlib.Core.Path.{◌≡◌, refl, sym, ap, ◌∙◌}
 use mathlib.Core.List.{List, [], ◌∷◌, ◌++◌, append_assoc}
 use Prim.Native.Nat.{ℕ, zero, suc, ◌+◌, ◌*◌, ◌≤◌}
 use native.Mathlib.Numerals.{add-one}
 use native.Mathlib.Omega.{arith}
-use lib.Dec.{T}
-use lib.Ieee.{Float, nan, inf, fin, binary64, ne, is_nan, to_bits}
-use lib.Ieee.Compare.{differs_from_itself}
+use lib.Ieee.{Float, binary64, to_bits}
 use lib.ListN.{length, length-append}
 use Rattle.definition.specs.SpectralEmbedding.{Counts}
 use Rattle.digits.specs.Digits.{decimal}
@@ -17,19 +14,6 @@ use Rattle.printing.specs.Printed.{labelled, answer_name, n_name, passes_name, r
 use Rattle.printing.specs.Printed.{bits_text, number_text, numbers_text, row_name, row_text, rows_text}
 
 -- ---- bits
-nan-bits : 0x7ff8_0000_0000_0000 ≡ to_bits binary64 nan
-unfolding to_bits
-nan-bits = refl
-
-pub differs_bits : (x : Float) → ne x x ≡ true → 0x7ff8_0000_0000_0000 ≡ to_bits binary64 x
-differs_bits x h = nan-bits ∙ ap (to_bits binary64) (sym (differs_from_itself x (subst (λ (t : Bool). T t) (sym h) tt)))
-
-pub no_nan : (x : Float) → ne x x ≡ false → T (not (is_nan x))
-unfolding is_nan ne
-no_nan nan h = absurd (false≢true (sym h))
-no_nan (inf s) h = tt
-no_nan (fin s m e) h = tt
-
 pub bits-length : (x : Float) → length (bits_text x) ≡ 16
 bits-length x = hex-length 16 (to_bits binary64 x)
 

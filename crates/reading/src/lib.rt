@@ -187,14 +187,11 @@ fn read_head(bytes: &[u8]) -> Result<Head, u64>
     })
 }
 
-// The float of a pattern. The logic has one NaN, and `from_bits` asks that the pattern is none's.
+// The float of a pattern, which may be a NaN's: the logic has one NaN.
 pub fn value_of(bits: u64) -> f64
     ensures { result ≡ of_bits binary64 bits }
 {
-    if 0x7ff0_0000_0000_0000 < bits % 0x8000_0000_0000_0000 {
-        return 0.0 / 0.0;
-    }
-    f64::from_bits(bits)
+    std::num::f64_from_bits_with_nan(bits)
 }
 
 // A loop: with `numbers.map(|n| n as u32)` the check does not prove that each cast fits (tried: `map-requires` stays open).
