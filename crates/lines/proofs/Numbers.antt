@@ -6,18 +6,19 @@ use Prim.Native.Nat.{ℕ, ◌+◌, ◌-◌, ◌*◌, ◌≤◌, ◌<◌}
 use native.Mathlib.Omega.{arith}
 use borrow.Author.Tests.{le-leb, lt-leb, ne_eqb}
 use lib.Dec.{leb, ltb, eqb}
-use lib.ListN.{length, get_or, drop, drop_of_length-le}
+use lib.ListN.{length, get_or, drop}
 use Rattle.std.specs.Prelude.{Option, Some, None, MatchOption}
 use Rattle.std.specs.Option.{unwrap_or}
 use Rattle.digits.specs.Digits.{every, is_digit, value_from}
 use Rattle.digits.proofs.Bytes.{both, not_left, not_right, neither, digit_range}
 use Rattle.digits.proofs.Decimals.{value_cons, value_nil, value_grows}
-use Rattle.lines.specs.Lines.{begins, holds, is_blank, words_of}
+use Rattle.lines.specs.Lines.{begins, holds, is_blank, goes_on, words_of}
 use Rattle.lines.specs.Kinds.{bytes_most, largest, value_of, is_number, are_numbers, kind_by, numbers_in, kind_of}
-use Rattle.lines.specs.Parts.{number_of}
+use Rattle.lines.specs.Parts.{run, number_of, FindsNumber, FailsNumber}
 use Rattle.lines.specs.declared.Kind.{Kind}
 use Rattle.lines.specs.declared.Kind.TheVariants.{Blank, Comment, Entry, Size, Other}
-use Rattle.lines.proofs.Runs.{here}
+use Rattle.lines.proofs.Runs.{run_off, at_on}
+use Rattle.lines.proofs.Words.{word_on, first_word}
 
 pub no_blank : (b : ℕ) → is_digit b ≡ true → is_blank b ≡ false
 unfolding is_blank
@@ -33,54 +34,74 @@ every-step : (b : ℕ) (bs : List ℕ) (t : Bool) → is_digit b ≡ t → every
 unfolding every
 every-step b bs t h = ap (λ (s : Bool). s && every is_digit bs) h
 
--- ---- a word is read as far as i
-pub record NumberScan (word : List ℕ) (value i : ℕ) : Type 0 where
-  pub small : value ≤ largest
-  pub number : value_from value (drop i word) ≡ value_of word
-  pub digits : every is_digit (drop i word) ≡ every is_digit word
+-- ---- the word in front is read as far as i
+abbrev word_from : List ℕ → ℕ → List ℕ
+word_from words i = run goes_on (drop i words)
 
-pub scan_start : (word : List ℕ) → NumberScan word 0 0
-scan_start word = record { small = omega arith; number = refl; digits = refl }
+pub record NumberScan (words : List ℕ) (value i : ℕ) : Type 0 where
+  pub place : i + length (word_from words i) ≡ length (word_from words 0)
+  pub small : value ≤ largest
+  pub number : value_from value (word_from words i) ≡ value_of (word_from words 0)
+  pub digits : every is_digit (word_from words i) ≡ every is_digit (word_from words 0)
+
+pub scan_start : (words : List ℕ) → NumberScan words 0 0
+scan_start words = record { place = omega arith; small = omega arith; number = refl; digits = refl }
 
 no_number : (word : List ℕ) → is_number word ≡ false → None ≡ number_of word
 no_number word h = sym (ap (λ (t : Bool). cond t (Some (value_of word)) None) h)
 
-module _ (word : List ℕ) (value i : ℕ) (scan : NumberScan word value i) where
+module _ (words : List ℕ) (value i : ℕ) (on : goes_on words ≡ true) (scan : NumberScan words value i) where
+  abbrev word : List ℕ
+  word = word_from words 0
+
   abbrev b : ℕ
-  b = get_or word i 0
+  b = get_or words i 0
 
-  pub scan_done : length word ≤ i → Some value ≡ number_of word
+  fails : is_number word ≡ false → FailsNumber (words_of words)
+  fails h = record { word = word; others = words_of (drop (length word) words); first = first_word words on; number = no_number word h }
+
+  pub scan_done : (rest : List ℕ) → drop i words ≡ rest → goes_on (drop i words) ≡ false → FindsNumber (words_of words) value (words_of rest)
   unfolding is_number
-  scan_done h =
-      let none : drop i word ≡ [] = drop_of_length-le word h in
+  scan_done rest e h =
+      let none : word_from words i ≡ [] = run_off goes_on (drop i words) h in
       let v : value ≡ value_of word = sym (ap (value_from value) none ∙ value_nil value) ∙ scan.number in
+      let n : length word ≡ i = omega (arith, scan.place, ap length none) in
       let d : every is_digit word ≡ true = sym scan.digits ∙ ap (every is_digit) none ∙ every_nil in
-      ap Some v
-      ∙ sym (ap (λ (t : Bool). cond t (Some (value_of word)) None)
-      (both (every is_digit word) (leb (value_of word) largest) d (le-leb (value_of word) largest (omega (arith, scan.small)))))
+      record {
+        word = word;
+        first = first_word words on ∙ ap (λ (k : ℕ). word ∷ words_of (drop k words)) n ∙ ap (λ (l : List ℕ). word ∷ words_of l) e;
+        number = ap Some v
+            ∙ sym (ap (λ (t : Bool). cond t (Some (value_of word)) None)
+            (both (every is_digit word) (leb (value_of word) largest) d (le-leb (value_of word) largest (omega (arith, scan.small)))));
+      }
 
-  module _ (more : i < length word) where
-    pub scan_other : is_digit b ≡ false → None ≡ number_of word
+  module _ (more : i < length words) where
+    word-here : is_blank b ≡ false → word_from words i ≡ b ∷ word_from words (i + 1)
+    word-here k = at_on goes_on words i more (word_on words i more k)
+
+    pub scan_other : is_digit b ≡ false → is_blank b ≡ false → FailsNumber (words_of words)
     unfolding is_number
-    scan_other d =
-        no_number word (not_left (every is_digit word) (leb (value_of word) largest)
-        (sym scan.digits ∙ ap (every is_digit) (here word i more) ∙ every-step b (drop (i + 1) word) false d))
+    scan_other d k =
+        fails (not_left (every is_digit word) (leb (value_of word) largest)
+        (sym scan.digits ∙ ap (every is_digit) (word-here k) ∙ every-step b (word_from words (i + 1)) false d))
 
-    next-value : value_from (value * 10 + (b - 48)) (drop (i + 1) word) ≡ value_of word
-    next-value = sym (ap (value_from value) (here word i more) ∙ value_cons value b (drop (i + 1) word)) ∙ scan.number
+    module _ (d : is_digit b ≡ true) where
+      next-value : value_from (value * 10 + (b - 48)) (word_from words (i + 1)) ≡ value_of word
+      next-value = sym (ap (value_from value) (word-here (no_blank b d)) ∙ value_cons value b (word_from words (i + 1))) ∙ scan.number
 
-    pub scan_over : largest < value * 10 + (b - 48) → None ≡ number_of word
-    unfolding is_number
-    scan_over h =
-        no_number word (not_right (every is_digit word) (leb (value_of word) largest)
-        (lt-leb (value_of word) largest (omega (arith, next-value, value_grows (value * 10 + (b - 48)) (drop (i + 1) word)))))
+      pub scan_over : largest < value * 10 + (b - 48) → FailsNumber (words_of words)
+      unfolding is_number
+      scan_over h =
+          fails (not_right (every is_digit word) (leb (value_of word) largest)
+          (lt-leb (value_of word) largest (omega (arith, next-value, value_grows (value * 10 + (b - 48)) (word_from words (i + 1))))))
 
-    pub scan_step : is_digit b ≡ true → value * 10 + (b - 48) ≤ largest → NumberScan word (value * 10 + (b - 48)) (i + 1)
-    scan_step d h = record {
-      small = h;
-      number = next-value;
-      digits = sym (ap (every is_digit) (here word i more) ∙ every-step b (drop (i + 1) word) true d) ∙ scan.digits;
-    }
+      pub scan_step : value * 10 + (b - 48) ≤ largest → NumberScan words (value * 10 + (b - 48)) (i + 1)
+      scan_step h = record {
+        place = omega (arith, scan.place, ap length (word-here (no_blank b d)));
+        small = h;
+        number = next-value;
+        digits = sym (ap (every is_digit) (word-here (no_blank b d)) ∙ every-step b (word_from words (i + 1)) true d) ∙ scan.digits;
+      }
 
 -- ---- what a line says
 some_number : (word : List ℕ) (x : ℕ) → Some x ≡ number_of word → (is_number word ≡ true) × (value_of word ≡ x)

@@ -5,7 +5,7 @@ use mathlib.Core.List.{List, [], ◌∷◌}
 use Prim.Native.Nat.{ℕ, suc, ◌+◌, ◌≤◌, ◌<◌}
 use native.Mathlib.Omega.{arith}
 use native.Mathlib.Numerals.{one-add}
-use borrow.Author.Tests.{not-true}
+use borrow.Author.Tests.{not-true, eqb-true}
 use lib.Dec.{eqb}
 use Rattle.std.proofs.lemmas.Bool.Decides.{nat_tests}
 use lib.ListN.{length, get_or, take, drop, drop_of_length-le}
@@ -49,6 +49,9 @@ module _ (line : List ℕ) (i : ℕ) where
 
   pub words_blank : i < length line → is_blank (get_or line i 0) ≡ true → words_of (drop i line) ≡ words_of (drop (i + 1) line)
   words_blank h e = ap words_of (here line i h) ∙ after_blank (get_or line i 0) (drop (i + 1) line) e
+
+pub no_words : (xs : List ℕ) → eqb (length xs) 0 ≡ true → words_of xs ≡ []
+no_words xs h = let none : length xs ≡ 0 = eqb-true (length xs) 0 h in words_end xs 0 (omega arith)
 
 -- ---- the first word, and the others
 words_cons : (b : ℕ) (bs : List ℕ) (t : Bool) → is_blank b ≡ false → goes_on bs ≡ t

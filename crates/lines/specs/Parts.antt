@@ -1,7 +1,7 @@
 -- What the inner functions answer. Definitions only.
 use Rattle.std.specs.Prelude.{Bool, true, false, cond, not, ◌&&◌, ◌||◌, List, [], ◌∷◌, ◌≡◌, ℕ, ◌≤◌, Option, Some, None, eqb, leb, length, drop}
 use Rattle.digits.specs.Digits.{part, every, is_digit}
-use Rattle.lines.specs.Lines.{begins}
+use Rattle.lines.specs.Lines.{begins, goes_on, words_of}
 use Rattle.lines.specs.Kinds.{largest, value_of, is_number}
 use Rattle.lines.specs.Banner.{same_by, is_letter, are_words, matrix_word, coordinate_word, pattern_word, symmetric_word}
 
@@ -27,6 +27,24 @@ end_length (b ∷ bs) = cond (eqb b 10) 1 2
 -- a word as a number, if it is one
 abbrev pub number_of : List ℕ → Option ℕ
 number_of word = cond (is_number word) (Some (value_of word)) None
+
+-- no blanks stand in front of what is left of a line any more, and no word was passed
+pub record Skips (line rest : List ℕ) : Type 0 where
+  pub words : words_of line ≡ words_of rest
+  pub here : 1 ≤ length rest → goes_on rest ≡ true
+
+-- the first of some words is a number, and the others stand behind it
+pub record FindsNumber (words : List (List ℕ)) (value : ℕ) (others : List (List ℕ)) : Type 0 where
+  pub word : List ℕ
+  pub first : words ≡ word ∷ others
+  pub number : Some value ≡ number_of word
+
+-- it is none
+pub record FailsNumber (words : List (List ℕ)) : Type 0 where
+  pub word : List ℕ
+  pub others : List (List ℕ)
+  pub first : words ≡ word ∷ others
+  pub number : None ≡ number_of word
 
 -- a small letter
 abbrev pub is_small : ℕ → Bool

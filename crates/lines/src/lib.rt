@@ -1,15 +1,15 @@
 // Lines of a Matrix Market text: where each ends, and what it says.
 #![tactic(auto)]
 
-ghost use Rattle.std.specs.Prelude.{◌≡◌, false, [], ◌∷◌, ◌+◌, ◌*◌, ◌^◌, ◌≤◌, ◌<◌, length, drop, not, IsTrue, IfSome, MatchOption, SomeIff};
+ghost use Rattle.std.specs.Prelude.{◌≡◌, true, false, [], ◌∷◌, ◌+◌, ◌*◌, ◌^◌, ◌≤◌, ◌<◌, length, drop, not, IsTrue, IfSome, MatchOption, SomeIff};
 ghost use Rattle.std.specs.List.{list_all, take_while};
-ghost use Rattle.lines.specs.Lines.{begins, holds, is_blank, words_of};
+ghost use Rattle.lines.specs.Lines.{begins, holds, is_blank, goes_on, words_of};
 ghost use Rattle.std.specs.Iterator.{YieldsFirst, item_count};
 ghost use Rattle.lines.specs.Kinds.{kind_of, numbers_in, kinds_at};
 ghost use Rattle.lines.specs.declared.Kind.TheVariants.{Other};
 ghost use Rattle.lines.specs.Banner.{same_by, is_letter, are_words, is_banner};
 ghost use Rattle.lines.specs.Read.{ReadsLine, ReadsBanner};
-ghost use Rattle.lines.specs.Parts.{line_goes_on, line_at, end_length, number_of, is_small, FindsWord, FailsWord, four_tests, ReadsDigits};
+ghost use Rattle.lines.specs.Parts.{line_goes_on, line_at, end_length, Skips, FindsNumber, FailsNumber, is_small, FindsWord, FailsWord, four_tests, ReadsDigits};
 
 // Behind the banner: nothing, a comment, two numbers, three numbers, or what no line may say.
 #[derive(Clone, Copy, PartialEq, Eq, Debug)]
@@ -62,6 +62,14 @@ fn blanks_before(line: &[u8]) -> usize
     line.iter().take_while(|b| is_blank(**b)).count()
 }
 
+// What stands behind the blanks in front: a word, or the end.
+fn behind_blanks(line: &[u8]) -> &[u8]
+    ensures { Skips line.now result.now }
+{
+    let (_, words) = line.split_at(blanks_before(line));
+    words
+}
+
 // How many bytes stand before the first blank.
 fn word_length(line: &[u8]) -> usize
     ensures { result ≡ length (take_while (λ b. not (is_blank b)) line.now) }
@@ -73,7 +81,7 @@ fn word_length(line: &[u8]) -> usize
 fn next_word(line: &[u8]) -> Option<(&[u8], &[u8])>
     ensures { MatchOption result (words_of line.now ≡ []) (λ r. words_of line.now ≡ r.0.now ∷ words_of r.1.now) }
 {
-    let (_, words) = line.split_at(blanks_before(line));
+    let words = behind_blanks(line);
     if words.is_empty() {
         return None;
     }
@@ -87,18 +95,23 @@ fn with_digit(value: u64, digit: u64) -> Option<u64>
     value.checked_mul(10)?.checked_add(digit)
 }
 
-// A word as a number. One too large settles it: the number only grows.
-fn read_number(word: &[u8]) -> Option<u64>
-    ensures { result ≡ number_of word.now }
+// The word in front as a number, and what stands behind it, in one pass. A number too large settles it: it only grows.
+fn read_number(words: &[u8]) -> Option<(u64, &[u8])>
+    requires { goes_on words.now ≡ true }
+    ensures { MatchOption result (FailsNumber (words_of words.now)) (λ r. FindsNumber (words_of words.now) r.0 (words_of r.1.now)) }
 {
     let mut value = 0;
-    for b in word {
-        if !digits::is_digit(*b) {
+    for i in 0..words.len() {
+        let b = words[i];
+        if !digits::is_digit(b) {
+            if is_blank(b) {
+                return Some((value, &words[i..]));
+            }
             return None;
         }
-        value = with_digit(value, (*b - b'0') as u64)?;
+        value = with_digit(value, (b - b'0') as u64)?;
     }
-    Some(value)
+    Some((value, &[]))
 }
 
 // ---- what a line says
@@ -107,20 +120,26 @@ fn read_number(word: &[u8]) -> Option<u64>
 fn read_numbers(line: &[u8]) -> Option<Kind>
     ensures { MatchOption result (numbers_in line.now ≡ Other) (λ kind. kind ≡ numbers_in line.now) }
 {
-    let Some((word, line)) = next_word(line) else {
+    let words = behind_blanks(line);
+    if words.is_empty() {
         return Some(Kind::Blank);
-    };
-    let row = read_number(word)?;
-    let (word, line) = next_word(line)?;
-    let column = read_number(word)?;
-    let Some((word, line)) = next_word(line) else {
-        return Some(Kind::Entry(row, column));
-    };
-    let entries = read_number(word)?;
-    match next_word(line) {
-        Some(_) => None,
-        None => Some(Kind::Size(row, column, entries)),
     }
+    let (row, line) = read_number(words)?;
+    let words = behind_blanks(line);
+    if words.is_empty() {
+        return None;
+    }
+    let (column, line) = read_number(words)?;
+    let words = behind_blanks(line);
+    if words.is_empty() {
+        return Some(Kind::Entry(row, column));
+    }
+    let (entries, line) = read_number(words)?;
+    let words = behind_blanks(line);
+    if !words.is_empty() {
+        return None;
+    }
+    Some(Kind::Size(row, column, entries))
 }
 
 fn begins_comment(line: &[u8]) -> bool

@@ -2,5 +2,5 @@
 use Rattle.lines.proofs.Numbers.{NumberScan}
 use Rattle.lines.proofs.read_number.Given as goal
 
-abbrev pub invariant-loop-b : goal.invariant-loop-b
-invariant-loop-b l = NumberScan l.word l.value l.b-index
+abbrev pub invariant-loop-i : goal.invariant-loop-i
+invariant-loop-i l = NumberScan l.words l.value l.i
