@@ -2,7 +2,7 @@
 use crate::lent::{self, Due};
 use crate::stored::Said;
 use crate::tally::{Kind, Tally};
-use input::{SpectralParams, Verdict};
+use input::{Graph, SpectralParams, Verdict};
 use reading::RunFile;
 
 // ---- run files
@@ -12,9 +12,7 @@ use reading::RunFile;
 pub struct Request<'a> {
     pub d: u64,
     pub params: SpectralParams,
-    pub starts: &'a [u64],
-    pub columns: &'a [u32],
-    pub values: &'a [f64],
+    pub graph: Graph<'a>,
 }
 
 // The first numbers of a list, and the whole of it where it has no more.
@@ -31,9 +29,11 @@ impl<'a> From<&'a RunFile> for Request<'a> {
                 degree: file.degree,
                 seed_std: file.seed_std,
             },
-            starts: front(&file.starts, file.start_count),
-            columns: front(&file.columns, file.column_count),
-            values: front(&file.values, file.value_count),
+            graph: Graph {
+                starts: front(&file.starts, file.start_count),
+                columns: front(&file.columns, file.column_count),
+                values: front(&file.values, file.value_count),
+            },
         }
     }
 }
@@ -41,14 +41,8 @@ impl<'a> From<&'a RunFile> for Request<'a> {
 impl Request<'_> {
     // Tries the first writer with so many bytes.
     pub fn try_written(self, due: Due, room: usize, kind: Kind, t: &mut Tally) {
-        let Request {
-            d,
-            params,
-            starts,
-            columns,
-            values,
-        } = self;
-        let write = |out: &mut [u8]| writing::write_run(d, params, starts, columns, values, out);
+        let Request { d, params, graph } = self;
+        let write = |out: &mut [u8]| writing::write_run(d, params, graph, out);
         t.note(kind, lent::is_right(write, due, room));
     }
 }

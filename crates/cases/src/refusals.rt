@@ -3,7 +3,7 @@ use crate::again::{self, Request};
 use crate::lent;
 use crate::stored::Said;
 use crate::tally::{Kind, Tally};
-use input::{SpectralParams, Verdict};
+use input::{Graph, SpectralParams, Verdict};
 
 fn refusal(number: u64, place: u64) -> Verdict {
     Verdict { number, place }
@@ -31,9 +31,11 @@ pub fn of_files(t: &mut Tally) {
                 degree: 0,
                 seed_std: 0.0,
             },
-            starts: again::front(&[0; 66], starts),
-            columns: again::front(&[0; 1025], columns),
-            values: again::front(&[0.0; 1025], values),
+            graph: Graph {
+                starts: again::front(&[0; 66], starts),
+                columns: again::front(&[0; 1025], columns),
+                values: again::front(&[0.0; 1025], values),
+            },
         };
         for room in [lent::ROOM, 0] {
             asked.try_written(Err(verdict), room, Kind::FilesRefused, t);

@@ -4,7 +4,7 @@
 
 ghost use Rattle.std.specs.Prelude.{◌≡◌, ◌≤◌, length};
 
-use input::SpectralParams;
+use input::{Graph, SpectralParams};
 use reading::RunFile;
 use std::io;
 
@@ -14,14 +14,12 @@ fn print_map(rt: &impl Print, file: RunFile) -> io::Result<()>
     requires starts_len { (length file.starts ≡ 65) × (length file.columns ≡ 1024) × (length file.values ≡ 1024) }
 {
     let mut out = [0u8; 8192];
-    let end = text::answer_graph(
-        file.d,
-        SpectralParams::new(),
-        &file.starts[..file.start_count],
-        &file.columns[..file.column_count],
-        &file.values[..file.value_count],
-        &mut out,
-    );
+    let graph = Graph {
+        starts: &file.starts[..file.start_count],
+        columns: &file.columns[..file.column_count],
+        values: &file.values[..file.value_count],
+    };
+    let end = text::answer_graph(file.d, SpectralParams::new(), graph, &mut out);
     rt.write_all(&out[..end])
 }
 

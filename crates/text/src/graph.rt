@@ -11,16 +11,9 @@ use spectral::Embedded;
 use state::Memory;
 
 // The one call in memory for 64 rows, 1,024 entries, 7 dimensions and 400 rounds; the seed is in `output`. The Ritz record is not printed.
-fn embed(
-    d: u64,
-    params: SpectralParams,
-    starts: &[u64],
-    columns: &[u32],
-    values: &[f64],
-    output: &mut [f64],
-) -> Embedded
-    requires { (length starts.now ≤ 65) × (length columns.now ≤ 1024) × (length output.old ≡ 448) × (params.rounds ≤ 400) }
-    ensures { Embeds d (params_of params) starts.now columns.now values.now (verdict_of result.verdict) (counts_in result.counts) output.new }
+fn embed(d: u64, params: SpectralParams, graph: Graph<'_>, output: &mut [f64]) -> Embedded
+    requires { (length graph.starts.now ≤ 65) × (length graph.columns.now ≤ 1024) × (length output.old ≡ 448) × (params.rounds ≤ 400) }
+    ensures { Embeds d (params_of params) graph.entry.starts.now graph.entry.columns.now graph.entry.values.now (verdict_of result.verdict) (counts_in result.counts) output.new }
 {
     let mut inverse = [0.0; 64];
     let mut v0 = [0.0; 64];
@@ -32,11 +25,6 @@ fn embed(
     let mut partials = [0.0; 225];
     let mut marks = [0u8; 1];
     let mut ritz_record = [0.0; 6400];
-    let graph = Graph {
-        starts,
-        columns,
-        values,
-    };
     let mut memory = Memory {
         inverse: &mut inverse,
         v0: &mut v0,
@@ -52,22 +40,23 @@ fn embed(
 }
 
 // The answer for a small graph at these parameters, from the first byte on; the place behind it.
-pub fn answer_graph(
-    d: u64,
-    params: SpectralParams,
-    starts: &[u64],
-    columns: &[u32],
-    values: &[f64],
-    out: &mut [u8],
-) -> usize
-    requires { (length starts.now ≤ 65) × (length columns.now ≤ 1024) × (room ≤ length out.old) × (params.rounds ≤ 400) }
-    ensures { (result ≡ length (answer_of d (params_of params) starts.now columns.now values.now)) × (result ≤ room)
-        × (out.new ≡ put (answer_of d (params_of params) starts.now columns.now values.now) 0 out.old) }
+pub fn answer_graph(d: u64, params: SpectralParams, graph: Graph<'_>, out: &mut [u8]) -> usize
+    requires { (length graph.starts.now ≤ 65) × (length graph.columns.now ≤ 1024) × (room ≤ length out.old) × (params.rounds ≤ 400) }
+    ensures { (result ≡ length (answer_of d (params_of params) graph.entry.starts.now graph.entry.columns.now graph.entry.values.now)) × (result ≤ room)
+        × (out.new ≡ put (answer_of d (params_of params) graph.entry.starts.now graph.entry.columns.now graph.entry.values.now) 0 out.old) }
 {
     let mut output = [0.0; 448];
     let seed: &mut [f64] = &mut output;
-    let embedded = embed(d, params, starts, columns, values, seed);
+    let embedded = embed(d, params, graph, seed);
     let verdict = embedded.verdict;
     let counts = embedded.counts;
-    printing::write_answer(verdict, d, input::row_count(starts), counts, seed, out).unwrap()
+    printing::write_answer(
+        verdict,
+        d,
+        input::row_count(graph.starts),
+        counts,
+        seed,
+        out,
+    )
+    .unwrap()
 }

@@ -6,7 +6,7 @@ ghost use Rattle.digits.specs.Placed.{put};
 ghost use Rattle.printing.specs.Printed.{refusal_text, room};
 ghost use Rattle.text.specs.Answer.{answer_held, answered, placed};
 
-use input::{Refusal, SpectralParams, Verdict};
+use input::{Graph, Refusal, SpectralParams, Verdict};
 use reading::RunFile;
 use state::Counts;
 
@@ -31,14 +31,12 @@ fn answer_run(file: RunFile, out: &mut [u8]) -> usize
         degree: file.degree,
         seed_std: file.seed_std,
     };
-    answer_graph(
-        file.d,
-        params,
-        &file.starts[..file.start_count],
-        &file.columns[..file.column_count],
-        &file.values[..file.value_count],
-        out,
-    )
+    let graph = Graph {
+        starts: &file.starts[..file.start_count],
+        columns: &file.columns[..file.column_count],
+        values: &file.values[..file.value_count],
+    };
+    answer_graph(file.d, params, graph, out)
 }
 
 // The refusal of a text that is no run file, from the first byte on; the place behind it.

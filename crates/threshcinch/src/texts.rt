@@ -8,7 +8,7 @@ ghost use Rattle.reading.specs.ReadRun.{read_run, record_of};
 ghost use Rattle.state.specs.Said.{counts_in};
 ghost use Rattle.threshcinch.specs.Texts.{text_verdict, run_told};
 
-use input::{Refusal, SpectralParams, Verdict};
+use input::{Graph, Refusal, SpectralParams, Verdict};
 use state::Counts;
 
 // A run file as it was read: its numbers, zeros behind those of each list. Where the text is none, the verdict is 17 at the line and all else zeros.
@@ -102,7 +102,12 @@ pub extern "C" fn threshcinch_write_run(
     ensures { Leaves (test_write d (params_of params) starts.now columns.now values.now text.old)
         (run_text d (params_of params) starts.now columns.now values.now) text.old (verdict_of result.verdict) result.length text.new }
 {
-    WrittenText::from(writing::write_run(d, params, starts, columns, values, text))
+    let graph = Graph {
+        starts,
+        columns,
+        values,
+    };
+    WrittenText::from(writing::write_run(d, params, graph, text))
 }
 
 #[unsafe(no_mangle)]

@@ -98,21 +98,14 @@ fn put_head(d: u64, params: SpectralParams, out: &mut [u8]) -> usize
 }
 
 // The seven lines, from the first byte on.
-fn put_run(
-    d: u64,
-    params: SpectralParams,
-    starts: &[u64],
-    columns: &[u32],
-    values: &[f64],
-    out: &mut [u8],
-) -> usize
-    requires { Room (run_text d (params_of params) starts.now columns.now values.now) 0 out.old }
-    ensures { Puts (run_text d (params_of params) starts.now columns.now values.now) 0 out.old result out.new }
+fn put_run(d: u64, params: SpectralParams, graph: Graph<'_>, out: &mut [u8]) -> usize
+    requires { Room (run_text d (params_of params) graph.starts.now graph.columns.now graph.values.now) 0 out.old }
+    ensures { Puts (run_text d (params_of params) graph.entry.starts.now graph.entry.columns.now graph.entry.values.now) 0 out.old result out.new }
 {
     let at4 = put_head(d, params, out);
-    let at5 = put_line(b"starts=", starts, out, at4);
-    let at6 = put_line(b"columns=", columns, out, at5);
-    put_line(b"values=", values, out, at6)
+    let at5 = put_line(b"starts=", graph.starts, out, at4);
+    let at6 = put_line(b"columns=", graph.columns, out, at5);
+    put_line(b"values=", graph.values, out, at6)
 }
 
 // ---- what is refused
@@ -137,35 +130,24 @@ fn test_sizes(rounds: u64, starts: usize, columns: usize, values: usize) -> Resu
 }
 
 // 1 to 10: the test of a file. That of the opening is another: a file can be written that no run takes.
-fn test_file(
-    d: u64,
-    params: SpectralParams,
-    starts: &[u64],
-    columns: &[u32],
-    values: &[f64],
-) -> Result<(), Refusal>
-    ensures { verdict_in result ≡ test_file d (params_of params) starts.now columns.now values.now }
+fn test_file(d: u64, params: SpectralParams, graph: Graph<'_>) -> Result<(), Refusal>
+    ensures { verdict_in result ≡ test_file d (params_of params) graph.entry.starts.now graph.entry.columns.now graph.entry.values.now }
 {
     input::test_dims(d)?;
-    input::test_graph(Graph {
-        starts,
-        columns,
-        values,
-    })?;
+    input::test_graph(graph)?;
     input::test_params(params)
 }
 
-fn test_run(
-    d: u64,
-    params: SpectralParams,
-    starts: &[u64],
-    columns: &[u32],
-    values: &[f64],
-) -> Result<(), Refusal>
-    ensures { verdict_in result ≡ test_run d (params_of params) starts.now columns.now values.now }
+fn test_run(d: u64, params: SpectralParams, graph: Graph<'_>) -> Result<(), Refusal>
+    ensures { verdict_in result ≡ test_run d (params_of params) graph.entry.starts.now graph.entry.columns.now graph.entry.values.now }
 {
-    test_sizes(params.rounds, starts.len(), columns.len(), values.len())?;
-    test_file(d, params, starts, columns, values)
+    test_sizes(
+        params.rounds,
+        graph.starts.len(),
+        graph.columns.len(),
+        graph.values.len(),
+    )?;
+    test_file(d, params, graph)
 }
 
 // So many bytes hold every run file. The `ensures` gives only the length, so that no proof counts so many zeros.
@@ -179,16 +161,14 @@ fn blank() -> [u8; 32768]
 pub fn write_run(
     d: u64,
     params: SpectralParams,
-    starts: &[u64],
-    columns: &[u32],
-    values: &[f64],
+    graph: Graph<'_>,
     out: &mut [u8],
 ) -> Result<usize, Refusal>
-    ensures { Leaves (test_write d (params_of params) starts.now columns.now values.now out.old)
-        (run_text d (params_of params) starts.now columns.now values.now) out.old (judged_in result) (length_in result) out.new }
+    ensures { Leaves (test_write d (params_of params) graph.entry.starts.now graph.entry.columns.now graph.entry.values.now out.old)
+        (run_text d (params_of params) graph.entry.starts.now graph.entry.columns.now graph.entry.values.now) out.old (judged_in result) (length_in result) out.new }
 {
-    test_run(d, params, starts, columns, values)?;
+    test_run(d, params, graph)?;
     let mut text = blank();
-    let end = put_run(d, params, starts, columns, values, &mut text);
+    let end = put_run(d, params, graph, &mut text);
     printing::deliver(&text[..end], out)
 }

@@ -16,8 +16,9 @@ handed_back P p e = subst P (sym e) p
 pub returns : goal.returns
 returns c =
     let a = c.args in
+    let g = a.graph in
     let r = c.spectral_embedding.result in
-    handed_back (Embeds a.d (params_of a.params) a.starts.now a.columns.now a.values.now (verdict_of r.verdict) (counts_in r.counts))
+    handed_back (Embeds a.d (params_of a.params) g.starts.now g.columns.now g.values.now (verdict_of r.verdict) (counts_in r.counts))
     (embeds_in r _ _ c.spectral_embedding.ensures.answer c.requires.0 c.requires.1 c.requires.3
     (ap (λ (x : ℕ). 64 ∷ 64 ∷ 1_024 ∷ 1_024 ∷ 960 ∷ 960 ∷ 960 ∷ 225 ∷ 1 ∷ x ∷ 6_400 ∷ []) c.requires.2))
     (search rules)
