@@ -3,17 +3,14 @@ use mathlib.Core.Path.{◌≡◌, sym, ap₂, ◌∙◌}
 use mathlib.Core.List.{List, ◌∷◌}
 use Prim.Native.Nat.{ℕ}
 use native.Mathlib.Omega.{arith}
-use borrow.Author.Tests.{eqb-true, eqb-false}
+use borrow.Author.Tests.{eqb-false}
 use lib.ListN.{length}
 use Rattle.lines.specs.Lines.{words_of}
-use Rattle.lines.proofs.Words.{words_end, word-most, word-front}
+use Rattle.lines.proofs.Words.{no_words, word-most, word-front}
 use Rattle.lines.proofs.next_word.Goals as goal
 
 pub returns-then-is_empty : goal.returns-then-is_empty
-returns-then-is_empty c =
-    let words = c.behind_blanks-words.result.now in
-    let none : length words ≡ 0 = eqb-true _ _ (sym c.is_empty.ensures ∙ c.if-is_empty.true) in
-    c.behind_blanks-words.ensures.words ∙ words_end words 0 (omega arith)
+returns-then-is_empty c = c.behind_blanks-words.ensures.words ∙ no_words _ (sym c.is_empty.ensures ∙ c.if-is_empty.true)
 
 pub split_at-requires : goal.split_at-requires
 split_at-requires c = word-most _ _ c.word_length.ensures
