@@ -111,9 +111,12 @@ fn put_run(d: u64, params: SpectralParams, graph: Graph<'_>, out: &mut [u8]) -> 
 // ---- what is refused
 
 // 17: over the program's sizes, with the first line that would hold them.
-fn test_sizes(rounds: u64, starts: usize, columns: usize, values: usize) -> Result<(), Refusal>
-    ensures { verdict_in result ≡ test_sizes rounds starts columns values }
+fn test_sizes(rounds: u64, graph: Graph<'_>) -> Result<(), Refusal>
+    ensures { verdict_in result ≡ test_sizes rounds (length graph.entry.starts.now) (length graph.entry.columns.now) (length graph.entry.values.now) }
 {
+    let starts = graph.starts.len();
+    let columns = graph.columns.len();
+    let values = graph.values.len();
     if ROUNDS_MOST < rounds {
         return Err(Refusal::File(2));
     }
@@ -141,12 +144,7 @@ fn test_file(d: u64, params: SpectralParams, graph: Graph<'_>) -> Result<(), Ref
 fn test_run(d: u64, params: SpectralParams, graph: Graph<'_>) -> Result<(), Refusal>
     ensures { verdict_in result ≡ test_run d (params_of params) graph.entry.starts.now graph.entry.columns.now graph.entry.values.now }
 {
-    test_sizes(
-        params.rounds,
-        graph.starts.len(),
-        graph.columns.len(),
-        graph.values.len(),
-    )?;
+    test_sizes(params.rounds, graph)?;
     test_file(d, params, graph)
 }
 
