@@ -4,6 +4,7 @@ pub mod Scans
 pub mod Asked
 pub mod RowLaws
 pub mod Stages
+pub mod Lengths
 pub mod Verdicts
 pub mod Owed
 pub mod Determined

@@ -2,17 +2,17 @@
 use mathlib.Core.Path.{◌≡◌, refl, sym, ap, ◌∙◌}
 use mathlib.Core.Logic.{◌⊎◌, inl, inr, ⊎_elim}
 use mathlib.Core.Bool.{Bool, true, false, not, ◌&&◌, ◌||◌}
-use mathlib.Core.List.{[], ◌∷◌}
+use mathlib.Core.List.{List, [], ◌∷◌}
 use Prim.Native.Nat.{ℕ, ◌<◌}
 use native.Mathlib.Omega.{arith}
 use borrow.Author.Tests.{ne_eqb}
 use lib.ListN.{get_or}
-use Rattle.definition.specs.Arith.{ieee64}
-use Rattle.machine.specs.State.{Asked, Lists, Lent}
-use Rattle.machine.specs.Ranges.{starts_sound, columns_sound, rows_sound}
+use Rattle.machine.specs.State.{Asked}
+use Rattle.machine.specs.Ranges.{starts_sound, columns_sound}
 use Rattle.state.specs.declared.stage.Stage.{Stage}
 use Rattle.state.specs.declared.stage.Stage.TheVariants as at
 use Rattle.state.specs.Stages.{number_of, StageAt}
+use Rattle.guard.specs.Rows.{rows_test}
 
 and-true : (a : Bool) → (a && true) ≡ a
 and-true true = refl
@@ -71,24 +71,24 @@ module _ {st : ℕ} {s : Stage} (e : StageAt st s) (t : Stage) (early : number_o
       sym (back-same s) ∙ ap stage_back n ∙ back-same t
 
 -- ---- the rows that a stage tests
-module _ (a : Asked) (g : Lists ieee64) (m : Lent ieee64) (h : ℕ) {st : ℕ} where
+module _ (a : Asked) (starts columns edge_columns : List ℕ) (h : ℕ) {st : ℕ} where
   -- the degrees
-  pub tests_starts : st ≡ 1 → starts_sound a g.starts h ≡ rows_sound ieee64 st a g m h
-  unfolding rows_sound
-  tests_starts e = rw e (sym (and-true (starts_sound a g.starts h)))
+  pub tests_starts : st ≡ 1 → starts_sound a starts h ≡ rows_test st a starts columns edge_columns h
+  unfolding rows_test
+  tests_starts e = rw e (sym (and-true (starts_sound a starts h)))
 
   -- the edges
-  pub tests_columns : st ≡ 2 → (starts_sound a g.starts h && columns_sound a g.starts g.columns h) ≡ rows_sound ieee64 st a g m h
-  unfolding rows_sound
-  tests_columns e = rw e (ap (λ (b : Bool). starts_sound a g.starts h && b) (sym (and-true (columns_sound a g.starts g.columns h))))
+  pub tests_columns : st ≡ 2 → (starts_sound a starts h && columns_sound a starts columns h) ≡ rows_test st a starts columns edge_columns h
+  unfolding rows_test
+  tests_columns e = rw e (ap (λ (b : Bool). starts_sound a starts h && b) (sym (and-true (columns_sound a starts columns h))))
 
   -- the filter's passes and the plain pass
   pub tests_edges : (st ≡ 5) ⊎ (st ≡ 13)
-      → (starts_sound a g.starts h && columns_sound a g.starts m.edge_columns h) ≡ rows_sound ieee64 st a g m h
-  unfolding rows_sound
+      → (starts_sound a starts h && columns_sound a starts edge_columns h) ≡ rows_test st a starts columns edge_columns h
+  unfolding rows_test
   tests_edges e = ⊎_elim (λ f. rw f refl) (λ f. rw f refl) e
 
   -- the others
-  pub tests_none : (st ≡ 1 → ⊥) → (st ≡ 2 → ⊥) → ((st ≡ 5) ⊎ (st ≡ 13) → ⊥) → true ≡ rows_sound ieee64 st a g m h
-  unfolding rows_sound
+  pub tests_none : (st ≡ 1 → ⊥) → (st ≡ 2 → ⊥) → ((st ≡ 5) ⊎ (st ≡ 13) → ⊥) → true ≡ rows_test st a starts columns edge_columns h
+  unfolding rows_test
   tests_none p q r = simp (ne_eqb st 1 p, ne_eqb st 2 q, ne_eqb st 5 (λ e. r (inl e)), ne_eqb st 13 (λ e. r (inr e)))

@@ -6,14 +6,13 @@ use Prim.Native.Nat.{ℕ, ◌+◌, ◌≤◌, ◌<◌}
 use native.Mathlib.Omega.{arith}
 use borrow.Author.Tests.{le-ltb, lt-ltb, le-leb, lt-leb, eq-eqb, ne_eqb}
 use lib.Dec.{leb}
-use lib.Ieee.{Float}
 use lib.ListN.{get_or}
 use Rattle.definition.specs.Arith.{ieee64}
 use Rattle.definition.specs.Marks.{undone, sound}
 use Rattle.definition.specs.Refusals.{Verdict, accepted, refused, given, or_else, first_from}
-use Rattle.machine.specs.State.{Asked, chunk_count, Lists, State, Lent, with_record}
+use Rattle.machine.specs.State.{chunk_count, Lists, State, Lent}
 use Rattle.machine.specs.Ranges.{state_sound, is_open, lists_sound, rows_sound, chunk_sound, sound_for_chunk, sound_for_close, test_chunk, test_close}
-use Rattle.guard.specs.Rows.{own_test}
+use Rattle.guard.specs.Rows.{rows_test, own_test}
 
 -- ---- what both calls test first: a the state, o that a run is open, l the lists
 module _ (a o l : Bool) where
@@ -68,8 +67,8 @@ module _ (s : State ieee64) (h : ℕ) (g : Lists ieee64) (m : Lent ieee64) (mark
 
         -- what is left: the chunk's own
         pub chunk-own : h < chunk_count s.asked
-            → own_test s.progress.stage s.asked g m marks h ≡ test_chunk ieee64 s h g m marks
-        unfolding test_chunk sound_for_chunk chunk_sound or_else
+            → own_test s.progress.stage s.asked g.starts g.columns m.edge_columns marks h ≡ test_chunk ieee64 s h g m marks
+        unfolding test_chunk sound_for_chunk chunk_sound rows_sound rows_test or_else
         chunk-own p = simp (e, o, l, lt-ltb h (chunk_count s.asked) p)
 
   -- a refusal of the first tests is the call's
@@ -104,12 +103,6 @@ module _ (marks : List ℕ) (h : ℕ) (r : Bool) where
     pub own-taken : r ≡ true → get_or marks h 0 ≡ 0 → accepted ≡ own
     unfolding or_else
     own-taken e q = simp (le-leb (get_or marks h 0) 1 p, e, eq-eqb (get_or marks h 0) 0 q)
-
--- no rows' test reads the Ritz record
-pub beside_record : (st : ℕ) (a : Asked) (g : Lists ieee64) (m : Lent ieee64) (ritz_record : List Float) (marks : List ℕ) (h : ℕ)
-    → own_test st a g m marks h ≡ own_test st a g (with_record ieee64 ritz_record m) marks h
-unfolding rows_sound
-beside_record st a g m ritz_record marks h = refl
 
 -- for `#[tactic(auto, using(..))]` on `test_own`
 pub ruleset own_laws = (own-mark, own-rows, own-done, own-taken)

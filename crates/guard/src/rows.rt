@@ -1,17 +1,17 @@
 // What a call needs of the graph's lists and of lent memory: their lengths, and for a chunk that it names the starts, the
 // columns and the mark of that chunk, where the stage reads them.
-ghost use Rattle.std.specs.Prelude.{◌≡◌, ◌&&◌, ◌+◌, ◌≤◌, ◌<◌, length};
+ghost use Rattle.std.specs.Prelude.{◌≡◌, ◌+◌, ◌≤◌, ◌<◌, length};
 ghost use Rattle.definition.specs.Arith.{ieee64};
 ghost use Rattle.definition.specs.Numbers.{first_row};
 ghost use Rattle.definition.specs.Requirements.{Starts};
 ghost use Rattle.machine.specs.State.{chunk_count};
-ghost use Rattle.machine.specs.Ranges.{starts_sound, columns_sound, rows_sound, lists_enough, lent_enough};
-ghost use Rattle.state.specs.Said.{asked_in, lists_of, lent_seen, all_seen};
-ghost use Rattle.guard.specs.Rows.{ChunkLists};
+ghost use Rattle.machine.specs.Ranges.{starts_sound, columns_sound, lists_enough};
+ghost use Rattle.state.specs.Said.{asked_in, lists_of};
+ghost use Rattle.guard.specs.Rows.{ChunkLists, rows_test, lists_test, own_lengths};
 
 use crate::ranges::Sound;
 use input::Graph;
-use state::{Asked, MemoryView, Stage};
+use state::{Asked, Stage};
 
 // No row of chunk h starts above the next one, and none of its entries lies past the entry count. Where no start falls the last one is
 // the highest, so that it alone is held to the count.
@@ -52,15 +52,9 @@ pub fn columns_sound(a: Sound, h: usize, starts: &[u64], columns: &[u32]) -> boo
 
 // The starts of the chunk where this stage reads them, and the columns of its entries: the graph's as the edges are made, the
 // lent ones in the filter's passes and the plain pass.
-pub fn rows_sound(
-    stage: usize,
-    a: Sound,
-    h: usize,
-    graph: Graph<'_>,
-    memory: MemoryView<'_>,
-) -> bool
-    requires { ChunkLists (asked_in a.asked) graph.starts.now graph.columns.now memory.edge_columns.now h }
-    ensures { result ≡ rows_sound ieee64 stage (asked_in a.asked) (lists_of graph.entry) (lent_seen memory.entry) h }
+pub fn rows_sound(stage: usize, a: Sound, h: usize, graph: Graph<'_>, edge_columns: &[u32]) -> bool
+    requires { ChunkLists (asked_in a.asked) graph.starts.now graph.columns.now edge_columns.now h }
+    ensures { result ≡ rows_test stage (asked_in a.asked) graph.entry.starts.now graph.entry.columns.now edge_columns.now h }
 {
     let starts = graph.starts;
     match Stage::from(stage) {
@@ -68,7 +62,7 @@ pub fn rows_sound(
         Stage::Edges => starts_sound(a.asked, h, starts)
             && columns_sound(a, h, starts, graph.columns),
         Stage::FilterPass | Stage::PlainPass => {
-            starts_sound(a.asked, h, starts) && columns_sound(a, h, starts, memory.edge_columns)
+            starts_sound(a.asked, h, starts) && columns_sound(a, h, starts, edge_columns)
         }
         _ => true,
     }
@@ -82,19 +76,31 @@ fn lists_enough(a: Asked, graph: Graph<'_>) -> bool
         && (a.entries <= graph.columns.len() && a.entries <= graph.values.len())
 }
 
-// All lists are: the graph's, and lent memory 0 to 10.
-pub fn lists_sound(
-    a: Sound,
-    graph: Graph<'_>,
-    memory: MemoryView<'_>,
-    marks: &[u8],
-    ritz_record: &[f64],
-) -> bool
-    ensures { result ≡ (lists_enough ieee64 (asked_in a.asked) (lists_of graph.entry)
-        && lent_enough ieee64 (asked_in a.asked) (all_seen memory.entry ritz_record.now) marks.now) }
+// The lengths of lent memory 0 to 10, from those of the lists that a test does not get, and those of the two that it gets. Arrays and no
+// struct: document 01 numbers the lent memory, `input::lent_sizes` answers its sizes by that number, and refusal 11 names one by it.
+pub fn own_lengths(lengths: [usize; 9], edge_columns: usize, marks: usize) -> [usize; 11]
+    ensures { result ≡ own_lengths lengths edge_columns marks }
+{
+    [
+        lengths[0],
+        lengths[1],
+        edge_columns,
+        lengths[2],
+        lengths[3],
+        lengths[4],
+        lengths[5],
+        lengths[6],
+        marks,
+        lengths[7],
+        lengths[8],
+    ]
+}
+
+// All lists are: the graph's, and lent memory of these lengths.
+pub fn lists_sound(a: Sound, graph: Graph<'_>, lengths: [usize; 11]) -> bool
+    ensures { result ≡ lists_test (asked_in a.asked) (lists_of graph.entry) lengths }
 {
     let asked = a.asked;
-    let lengths = memory.lengths(marks, ritz_record);
     lists_enough(asked, graph)
         && input::test_lent(asked.dims, asked.rounds, asked.rows, asked.entries, lengths).is_ok()
 }

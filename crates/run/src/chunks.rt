@@ -7,6 +7,7 @@ ghost use Rattle.machine.specs.Calls.{chunk_call};
 ghost use Rattle.state.specs.Said.{state_in, lists_of, lent_of, all_of, outcome_in, SamePlaces};
 ghost use Rattle.stages.specs.Parts.{parts_of};
 
+use crate::lengths::other_lengths;
 use columns::marks::set_mark;
 use input::{Graph, Verdict};
 use stages::StateParts;
@@ -44,7 +45,14 @@ pub fn chunk<'g, 'm>(
     ensures same_places { SamePlaces memory.old memory.new }
 {
     let seen = memory.view();
-    let tested = guard::test_chunk(state, number, graph, seen, &marks[..], ritz_record);
+    let tested = guard::test_chunk(
+        state,
+        number,
+        graph,
+        seen.edge_columns,
+        &marks[..],
+        other_lengths(seen, ritz_record),
+    );
     let verdict = Verdict::from(tested);
     let is_refused = tested.is_err();
     if is_refused {

@@ -8,6 +8,7 @@
 #![tactic(auto)]
 
 mod chunks; // chunks.rt: a chunk's work and its mark
+mod lengths; // lengths.rt: what the tests of a call are told of the memory
 mod opening; // opening.rt: the first state, and the call that answers it
 mod stage_end; // stage_end.rt: closing a stage
 

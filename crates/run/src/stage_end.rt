@@ -8,6 +8,7 @@ ghost use Rattle.machine.specs.Closing.{closed_by, record_after};
 ghost use Rattle.machine.specs.Calls.{close_call};
 ghost use Rattle.state.specs.Said.{asked_in, state_in, lists_of, all_seen, outcome_in};
 
+use crate::lengths::other_lengths;
 use columns::marks::clear_marks;
 use input::{Graph, Verdict};
 use state::{Answer, MemoryView, State};
@@ -46,7 +47,13 @@ pub fn close<'g, 'm>(
     ensures { outcome_in result (all_seen memory.entry ritz_record.new) marks.new
         ≡ close_call ieee64 (state_in state) (lists_of graph.entry) (all_seen memory.entry ritz_record.old) marks.old }
 {
-    let tested = guard::test_close(state, graph, memory, &marks[..], &ritz_record[..]);
+    let tested = guard::test_close(
+        state,
+        graph,
+        memory.edge_columns,
+        &marks[..],
+        other_lengths(memory, &ritz_record[..]),
+    );
     let verdict = Verdict::from(tested);
     if tested.is_err() {
         return Answer { verdict, state };

@@ -1,7 +1,7 @@
 use mathlib.Core.Path.{◌≡◌, sym, ◌∙◌}
 use mathlib.Core.Bool.{true}
 use Rattle.definition.specs.Arith.{ieee64}
-use Rattle.machine.specs.Ranges.{state_sound, is_open, lists_sound}
+use Rattle.machine.specs.Ranges.{state_sound, is_open}
 use Rattle.state.specs.Said.{state_in}
 use Rattle.guard.proofs.Asked.{state-asked}
 use Rattle.guard.proofs.Verdicts.{begun-damaged, begun-none, begun-short, begun-taken}
@@ -26,13 +26,11 @@ pub invariant_of-a : goal.invariant_of-a
 invariant_of-a c = record { ready = state-asked (state_in c.args.state.now) (sound (goal.at.invariant_of-a c).Else-not-fields_sound) }
 
 pub returns-then-not-lists_sound : goal.returns-then-not-lists_sound
-unfolding lists_sound
 returns-then-not-lists_sound c =
     let at = goal.at.returns-then-not-lists_sound c in
     begun-short _ _ _ (sound at.Else-not-fields_sound) (opened at.Else-not-is_open) (sym c.lists_sound.ensures ∙ c.if-not-lists_sound.true)
 
 pub returns : goal.returns
-unfolding lists_sound
 returns c =
     let at = goal.at.returns c in
     begun-taken _ _ _ (sound at.Else-not-fields_sound) (opened at.Else-not-is_open) (sym c.lists_sound.ensures ∙ c.if-not-lists_sound.false)

@@ -1,10 +1,10 @@
 -- A refused chunk leaves all as it is, an accepted one has what `work_chunk` asks.
-use mathlib.Core.Path.{◌≡◌, sym, ap, ◌∙◌}
+use mathlib.Core.Path.{◌≡◌, refl, sym, ap, ◌∙◌}
 use Rattle.definition.specs.Arith.{ieee64}
 use Rattle.input.specs.Said.{verdict_of}
 use Rattle.machine.specs.State.{Lent, with_record}
 use Rattle.machine.specs.Ranges.{test_chunk}
-use Rattle.state.specs.Said.{state_in, lists_of, all_of}
+use Rattle.state.specs.Said.{state_in, lists_of, all_of, all_seen}
 use Rattle.ready.proofs.Ready.{chunk_ready, ready_beside}
 use Rattle.stages.proofs.Parts.{parts_ready}
 use Rattle.run.proofs.Paths.{no_refusal, a_refusal, zero-passes, chunk-refused, chunk-taken}
@@ -18,7 +18,7 @@ found : (t : After-from-verdict) → let a = t.args in
     (all_of a.memory.now a.ritz_record.now) a.marks.now
 found t =
     let a = t.args in
-    t.from-verdict.ensures ∙ t.test_chunk-tested.ensures
+    t.from-verdict.ensures ∙ t.test_chunk-tested.ensures (all_seen t.view-seen.result a.ritz_record.now) refl (sym t.other_lengths.ensures)
     ∙ ap (λ (m : Lent ieee64). test_chunk ieee64 (state_in a.state) a.number (lists_of a.graph) (with_record ieee64 a.ritz_record.now m) a.marks.now) t.view-seen.ensures
 
 pub returns-then-is_refused-clause-answer : goal.returns-then-is_refused-clause-answer

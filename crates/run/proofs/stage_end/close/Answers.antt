@@ -1,5 +1,5 @@
 -- A refused closing leaves all as it is, an accepted one has what `close_stage` asks.
-use mathlib.Core.Path.{◌≡◌, sym, ◌∙◌}
+use mathlib.Core.Path.{◌≡◌, refl, sym, ◌∙◌}
 use Rattle.definition.specs.Arith.{ieee64}
 use Rattle.input.specs.Said.{verdict_of}
 use Rattle.machine.specs.Ranges.{test_close}
@@ -14,7 +14,7 @@ found : (t : After-from-verdict) → let a = t.args in
     verdict_of t.from-verdict.result
     ≡ test_close ieee64 (state_in a.state) (lists_of a.graph)
     (all_seen a.memory a.ritz_record.now) a.marks.now
-found t = t.from-verdict.ensures ∙ t.test_close-tested.ensures
+found t = let a = t.args in t.from-verdict.ensures ∙ t.test_close-tested.ensures (all_seen a.memory a.ritz_record.now) refl (sym t.other_lengths.ensures)
 
 pub returns-then-is_err : goal.returns-then-is_err
 returns-then-is_err c =
