@@ -2,5 +2,6 @@
 pub mod Putting
 pub mod Leaving
 pub mod Answers
+mod Commas
 mod Texts
 mod Cases

@@ -57,15 +57,6 @@ head-most n t =
     )
 
 -- ---- a row's numbers
-pub number-first : (x : Float) → bits_text x ≡ number_text 0 x
-unfolding number_text
-number-first x = refl
-
-pub number-later : (c : ℕ) (x : Float) → (c ≡ 0 → ⊥) → (44 ∷ []) ++ bits_text x ≡ number_text c x
-unfolding number_text
-number-later zero x h = absurd (h refl)
-number-later (suc c) x h = refl
-
 number-most : (c : ℕ) (x : Float) → length (number_text c x) ≤ 17
 unfolding number_text
 number-most zero x = omega (arith, bits-length x)

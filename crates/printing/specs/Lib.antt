@@ -2,3 +2,4 @@
 pub mod Printed
 pub mod Room
 pub mod Answer
+pub mod Items

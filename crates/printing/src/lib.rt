@@ -9,14 +9,16 @@ ghost use Rattle.std.specs.Float.{binary64, nan};
 ghost use Rattle.std.specs.Float.Ieee.{to_bits};
 ghost use Rattle.digits.specs.Placed.{put};
 ghost use Rattle.state.specs.Said.{counts_in};
-ghost use Rattle.printing.specs.Printed.{labelled, refusal_text, head_text, bits_text, number_text, numbers_text, row_text, rows_text, seed_text, room};
+ghost use Rattle.printing.specs.Printed.{labelled, refusal_text, head_text, row_text, rows_text, seed_text, room};
 
 use state::Counts;
 
 mod answer; // the whole answer, by its verdict
+mod items; // numbers by commas
 mod room; // into text that a host lends
 
 pub use answer::write_answer;
+pub use items::{Item, put_numbers};
 pub use room::deliver;
 
 // The bits of a number, a NaN always with the same ones.
@@ -57,39 +59,6 @@ fn put_pair(first: &[u8], x: u64, second: &[u8], y: u64, out: &mut [u8], at: usi
     put_labelled(second, y, out, next)
 }
 
-// The hex of a number's bits.
-fn put_bits(x: f64, out: &mut [u8], at: usize) -> usize
-    requires { at + 16 ≤ length out.old }
-    ensures { (result ≡ at + length (bits_text x)) × (out.new ≡ put (bits_text x) at out.old) }
-{
-    digits::write_hex(bits_of(x), out, at).unwrap()
-}
-
-// The number x in column c of a row, behind a comma unless it is the first.
-fn put_number(c: usize, x: f64, out: &mut [u8], at: usize) -> usize
-    requires { at + 17 ≤ length out.old }
-    ensures { (result ≡ at + length (number_text c x)) × (out.new ≡ put (number_text c x) at out.old) }
-{
-    if c == 0 {
-        return put_bits(x, out, at);
-    }
-    let next = put_text(b",", out, at);
-    put_bits(x, out, next)
-}
-
-// The d numbers that stand from `from` on, by commas.
-fn put_numbers(seed: &[f64], from: usize, d: usize, out: &mut [u8], at: usize) -> usize
-    requires { (from + d ≤ length seed.now) × (at + 17 * d ≤ length out.old) }
-    ensures { (result ≡ at + length (numbers_text (λ c. get_or seed.now (from + c) nan) d))
-        × (out.new ≡ put (numbers_text (λ c. get_or seed.now (from + c) nan) d) at out.old) }
-{
-    let mut next = at;
-    for c in 0..d {
-        next = put_number(c, seed[from + c], out, next);
-    }
-    next
-}
-
 // The line of row i.
 fn put_row(i: usize, d: usize, seed: &[f64], out: &mut [u8], at: usize) -> usize
     requires { (i * d + d ≤ length seed.now) × (at + 17 * d + 5 ≤ length out.old) }
@@ -97,7 +66,8 @@ fn put_row(i: usize, d: usize, seed: &[f64], out: &mut [u8], at: usize) -> usize
         × (out.new ≡ put (row_text (λ c. get_or seed.now (i * d + c) nan) d) at out.old) }
 {
     let named = put_text(b"row=", out, at);
-    let next = put_numbers(seed, i * d, d, out, named);
+    let from = i * d;
+    let next = put_numbers(&seed[from..from + d], out, named);
     put_text(b"\n", out, next)
 }
 

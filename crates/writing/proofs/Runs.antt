@@ -12,7 +12,8 @@ use Rattle.digits.proofs.Lists.{put-length}
 use Rattle.printing.proofs.Putting.{Put, put_then}
 use Rattle.reading.specs.Grammar.{d_line, rounds_line, degree_line, seed_std_line, starts_line, columns_line, values_line, joined, line_text, text_up_to}
 use Rattle.files.specs.RunText.{bits_of, run_text}
-use Rattle.writing.specs.Putting.{joined_by, line_by, head_text}
+use Rattle.printing.specs.Items.{joined_by}
+use Rattle.writing.specs.Putting.{line_by, head_text}
 use Rattle.writing.proofs.Lines.{line-decimal, line-bits}
 
 -- ---- four texts

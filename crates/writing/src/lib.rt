@@ -1,78 +1,18 @@
 // The writer of run files: the seven lines of a graph with its parameters, into text that a host lends.
 #![tactic(auto)]
 
-ghost use Rattle.std.specs.Prelude.{◌≡◌, List, ℕ, length};
-ghost use Rattle.digits.specs.Digits.{decimal};
+ghost use Rattle.std.specs.Prelude.{◌≡◌, length};
 ghost use Rattle.input.specs.Said.{verdict_in, params_of};
-ghost use Rattle.printing.specs.Printed.{bits_text};
+ghost use Rattle.printing.specs.Items.{Puts, Room};
 ghost use Rattle.printing.specs.Room.{judged_in, length_in, Leaves};
 ghost use Rattle.files.specs.RunText.{test_sizes, test_file, test_run, test_write, run_text};
-ghost use Rattle.writing.specs.Putting.{item_text, joined_by, line_by, head_text, Puts, Room};
+ghost use Rattle.writing.specs.Putting.{line_by, head_text};
 
 use input::{Graph, Refusal, SpectralParams};
-use printing::put_text;
+use printing::{Item, put_numbers, put_text};
 use reading::{ENTRIES_MOST, ROUNDS_MOST, STARTS_MOST};
 
 // ---- a line
-
-// A number of a line.
-trait Item: Copy {
-    // Its text.
-    ghost text: { Self → List ℕ };
-
-    fn put(self, out: &mut [u8], at: usize) -> usize
-        requires { Room (text self) at out.old }
-        ensures { Puts (text self) at out.old result out.new };
-}
-
-impl Item for u64 {
-    ghost text = { decimal };
-
-    fn put(self, out: &mut [u8], at: usize) -> usize {
-        digits::write_decimal(self, out, at).unwrap()
-    }
-}
-
-impl Item for u32 {
-    ghost text = { decimal };
-
-    fn put(self, out: &mut [u8], at: usize) -> usize {
-        u64::from(self).put(out, at)
-    }
-}
-
-// The hex of its bits.
-impl Item for f64 {
-    ghost text = { bits_text };
-
-    fn put(self, out: &mut [u8], at: usize) -> usize {
-        digits::write_hex(printing::bits_of(self), out, at).unwrap()
-    }
-}
-
-// Number i of a line, behind a comma unless it is the first.
-fn put_item<T: Item>(i: usize, x: T, out: &mut [u8], at: usize) -> usize
-    requires { Room (item_text i (T.text x)) at out.old }
-    ensures { Puts (item_text i (T.text x)) at out.old result out.new }
-{
-    if i == 0 {
-        return x.put(out, at);
-    }
-    let next = put_text(b",", out, at);
-    x.put(out, next)
-}
-
-// Numbers by commas.
-fn put_numbers<T: Item>(numbers: &[T], out: &mut [u8], at: usize) -> usize
-    requires { Room (joined_by T.text numbers.now) at out.old }
-    ensures { Puts (joined_by T.text numbers.now) at out.old result out.new }
-{
-    let mut next = at;
-    for i in 0..numbers.len() {
-        next = put_item(i, numbers[i], out, next);
-    }
-    next
-}
 
 // A line: its name, its numbers, a newline.
 fn put_line<T: Item>(name: &[u8], numbers: &[T], out: &mut [u8], at: usize) -> usize

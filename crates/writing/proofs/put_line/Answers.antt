@@ -2,7 +2,7 @@ use mathlib.Core.List.{List, [], ◌∷◌, ◌++◌}
 use Prim.Native.Nat.{ℕ}
 use native.Mathlib.Omega.{arith}
 use Rattle.printing.proofs.Putting.{put_then}
-use Rattle.writing.specs.Putting.{joined_by}
+use Rattle.printing.specs.Items.{joined_by}
 use Rattle.writing.proofs.Lines.{line-length}
 use Rattle.writing.proofs.put_line.Goals as goal
 

@@ -5,9 +5,9 @@ use native.Mathlib.Omega.{arith}
 use lib.ListN.{take}
 use lib.Seq.{take_all}
 use Rattle.printing.proofs.Putting.{Put, put-none, put_then}
-use Rattle.writing.specs.Putting.{joined_by, item_text}
-use Rattle.writing.proofs.Lines.{joined-none, more-at, room-at}
-use Rattle.writing.proofs.put_numbers.Goals as goal
+use Rattle.printing.specs.Items.{joined_by, item_text}
+use Rattle.printing.proofs.Commas.{joined-none, more-at, room-at}
+use Rattle.printing.proofs.items.put_numbers.Goals as goal
 
 pub loop-i-init : goal.loop-i-init
 loop-i-init g c =

@@ -4,9 +4,9 @@ use Prim.Native.Nat.{ℕ}
 use native.Mathlib.Omega.{arith}
 use lib.ListN.{length}
 use Rattle.printing.proofs.Putting.{Put, put_then}
-use Rattle.writing.specs.Putting.{item_text}
-use Rattle.writing.proofs.Lines.{item_first, item_later}
-use Rattle.writing.proofs.put_item.Goals as goal
+use Rattle.printing.specs.Items.{item_text}
+use Rattle.printing.proofs.Commas.{item_first, item_later}
+use Rattle.printing.proofs.items.put_item.Goals as goal
 
 pub put-requires : goal.put-requires
 put-requires g c =

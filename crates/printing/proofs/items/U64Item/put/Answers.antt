@@ -1,5 +1,5 @@
 use Rattle.printing.proofs.Putting.{written-put, written-some}
-use Rattle.writing.proofs.U64Item.put.Goals as goal
+use Rattle.printing.proofs.items.U64Item.put.Goals as goal
 
 pub unwrap-requires : goal.unwrap-requires
 unwrap-requires c = written-some _ _ _ _ _ c.requires c.write_decimal.ensures

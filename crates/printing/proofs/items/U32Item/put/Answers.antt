@@ -4,7 +4,7 @@ use native.Mathlib.Omega.{arith}
 use lib.ListN.{length}
 use Rattle.digits.specs.Digits.{decimal}
 use Rattle.printing.proofs.Putting.{Put}
-use Rattle.writing.proofs.U32Item.put.Goals as goal
+use Rattle.printing.proofs.items.U32Item.put.Goals as goal
 
 pub put-requires : goal.put-requires
 put-requires c = omega (arith, c.requires, ap (λ (v : ℕ). length (decimal v)) c.from.ensures)
