@@ -1,6 +1,6 @@
 // The stages that write a column of the current block.
-// Where a stage writes one of the three blocks they stay three parameters, here and in pass.rt: a struct of them would hold `&mut`s, and a
-// contract could say what becomes of them only by a clause for each borrow that ends later.
+// Where a stage writes one of the three blocks they stay three parameters, here and in pass.rt: a struct of them would hold `&mut`s, and
+// each contract would want a clause more for each: that the list is the same place after the call (`state`'s `SamePlaces`).
 ghost use Rattle.std.specs.Prelude.{◌≡◌, List, ℕ, ◌*◌, ◌≤◌, Float, length};
 ghost use Rattle.definition.specs.Arith.{ieee64};
 ghost use Rattle.definition.specs.Memory.{vector_of, block_of, number_at};

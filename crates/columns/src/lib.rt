@@ -2,7 +2,7 @@
 // chunk's rows as a part that begins at its first row, with that row's number where the work needs it.
 // Each chunk function lends that part on and says what the whole block holds then; n is part of what it
 // says, since where a block keeps a number may hang on it.
-// Dots, vectors and scales are arrays of 225 numbers, for the widest block, whatever the width: fixed memory, no heap (reason a).
+// Dots, vectors and scales are arrays of 225 numbers, for the widest block, whatever the width: fixed memory, no heap.
 #![tactic(auto)]
 
 ghost use Rattle.std.specs.Prelude.{◌≡◌, ℕ, Float, ◌+◌, ◌≤◌, ◌<◌, length};
@@ -38,7 +38,7 @@ fn row_delta(c: usize, dots: &[f64; 225], own: f64, row: &[f64]) -> f64
 }
 
 // The delta taken from column c, in the rows from `first` on. A loop of its own and not `write_rows`: a row's delta reads
-// the row's other numbers, and a closure over the part that is written can't (reason d).
+// the row's other numbers, and a closure over the part that is written can't.
 pub fn subtract_rows(column: Column, dots: &[f64; 225], first: usize, v0: &[f64], part: &mut [f64])
     requires part { Part column.width column.c column.rows part.old }
     requires rows_in_bounds { first + column.rows ≤ length v0.now }

@@ -35,7 +35,7 @@ fn turned_number(k: usize, row: &[f64], vectors: &[f64; 225], q: usize) -> f64
 }
 
 // One row of output, at `at`: the row of the basis turned onto the first d Ritz vectors, times the
-// row's inverse weight. By index: j is a place of `order` and one of the row (reason d).
+// row's inverse weight. By index: j is a place of `order` and one of the row.
 fn rotate_row(ritz: Ritz<'_>, d: usize, row: &[f64], weight: f64, at: usize, part: &mut [f64])
     requires k_bound { (ritz.k ≤ 15) × (d ≤ ritz.k) × (ritz.k ≤ length row.now) × (at + d ≤ length part.old) }
     requires columns { Columns ritz.order.now 0 d ritz.k }
@@ -84,7 +84,7 @@ pub fn rotate_chunk(own: Rows, ritz: Ritz<'_>, v: &[f64], inverse: &[f64], outpu
     rotate_rows(own, ritz, v, inverse, &mut output[a..e]);
 }
 
-// The mean of each of the d columns. By index: two cut lists side by side are no plainer (reason d).
+// The mean of each of the d columns. By index: two cut lists side by side are no plainer.
 fn column_means(n: usize, d: usize, sums: &[f64; 225]) -> [f64; 7]
     requires { (n ≤ rows_most) × (d ≤ dims_most) }
     ensures { result ≡ fill_range 0 d (λ j. ieee64.div (vector_of nan sums.now j) (ieee64.whole n)) (replicate 7 ieee64.zero) }

@@ -125,7 +125,7 @@ pub fn read_hex(bytes: &[u8], from: usize) -> Option<Number>
     hex_bits(bytes, from)
 }
 
-// How many digits the decimal of x has.
+// How many digits the decimal of x has. It divides until one is left.
 pub fn decimal_length(x: u64) -> usize
     ensures { result ≡ length (decimal x) }
 {

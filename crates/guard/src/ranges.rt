@@ -78,7 +78,7 @@ fn counts_sound(a: Sound, counts: Counts) -> bool
             && (counts.zeroed <= columns && counts.isolated <= a.asked.rows))
 }
 
-// Every Ritz place below k.
+// Every Ritz place below k. With `iter().all` (tried) the proof of its answer stayed open.
 fn order_sound(a: Sound, order: [usize; 15]) -> bool
     ensures { result ≡ order_sound (asked_in a.asked) order }
 {

@@ -8,7 +8,7 @@ ghost use Rattle.input.specs.Said.{verdict_in, short};
 
 use crate::Refusal;
 
-// Neither NaN nor infinite. (A constant can't be an infinity, a quotient can.)
+// Neither NaN nor infinite: between the infinities, as the definition says it.
 pub fn is_finite(x: f64) -> bool
     ensures { result ≡ is_finite x }
 {

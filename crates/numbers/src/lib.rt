@@ -17,7 +17,7 @@ ghost use Rattle.numbers.specs.Answers.{multipliers_of, ending_of, raised, lower
 
 pub use rows::Rows;
 
-// The square root of x, rounded to nearest. Of -0 it is -0, and of anything else below zero and of
+// The square root of x, rounded to nearest, digit by digit: document 01 writes it out, and the library's own is the machine's. Of -0 it is -0, and of anything else below zero and of
 // a NaN it is NaN.
 pub fn root(x: f64) -> f64
     ensures { result ≡ root_of binary64 x }

@@ -1,7 +1,8 @@
 // What the text program prints: a refusal, or the counts and the seed.
 //
 // A function here writes from a place on, where it is told that there is room, and answers the place behind what it wrote. `deliver` and
-// `write_answer` ask for nothing: they answer the length that they wrote from the first byte on, or a refusal.
+// `write_answer` ask for nothing: they answer the length that they wrote from the first byte on, or a refusal. They write by hand and not
+// by `Display`: the room is lent, and each byte of it stands in a contract.
 #![tactic(auto)]
 
 ghost use Rattle.std.specs.Prelude.{◌≡◌, ◌++◌, ◌*◌, ◌+◌, ◌≤◌, length, get_or};

@@ -86,7 +86,8 @@ impl Table {
         self.count = 0;
     }
 
-    // Whether this key may be stored: where it is not, no entry has it. Place 0 is looked at as others are, so that the ways part seldom.
+    // Whether this key may be stored: where it is not, no entry has it. Place 0 is looked at as others are, so that the ways part seldom. The loop
+    // goes along a chain and counts nothing.
     fn look_up(&self, key: u64) -> bool
         ensures { result ≡ false → holds key self.now ≡ false }
     {

@@ -1,5 +1,5 @@
 // Degrees: each row's root and inverse weight, and v0 from the roots. `first` and `end` stand alone and not in a `Rows`: a list
-// here has one number a row, and how many rows there are is asked of it, not of a caller (reason d).
+// here has one number a row, and how many rows there are is asked of it, not of a caller.
 ghost use Rattle.std.specs.Prelude.{◌≡◌, ◌+◌, ◌≤◌, length};
 ghost use Rattle.definition.specs.Arith.{ieee64};
 ghost use Rattle.definition.specs.ChunkedColumnReduce.{sum_up};

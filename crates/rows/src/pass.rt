@@ -1,6 +1,6 @@
 // One pass of the operator: a row at a time, its entries gathered into an array of at most 15
 // numbers, mixed, and copied out. A direct store into `out` would stop the compiler from keeping
-// the row in registers. The array is as long as the widest row: fixed memory, no heap (reason a).
+// the row in registers. The array is as long as the widest row: fixed memory, no heap.
 ghost use Rattle.std.specs.Prelude.{◌≡◌, ◌+◌, ◌-◌, ◌*◌, ◌≤◌, length, replicate};
 ghost use Rattle.definition.specs.Arith.{ieee64};
 ghost use Rattle.definition.specs.MatvecCombine.{mixed_with, shifted};

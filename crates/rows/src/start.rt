@@ -7,7 +7,7 @@ ghost use Rattle.definition.specs.Requirements.{Span};
 
 use numbers::Rows;
 
-// The numbers of the indices from `from` on, as many as the part has. By index: the index is what is hashed (reason d).
+// The numbers of the indices from `from` on, as many as the part has. By index: the index is what is hashed.
 fn start_block_rows(from: usize, rows: &mut [f64])
     requires { from + length rows.old < 2 ^ 64 }
     ensures { rows.new ≡ fill_range 0 (length rows.old) (λ p. ieee64.start (from + p)) rows.old }

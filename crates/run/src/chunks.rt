@@ -54,6 +54,7 @@ pub fn chunk<'g, 'm>(
         other_lengths(seen, ritz_record),
     );
     let verdict = Verdict::from(tested);
+    // a name of its own for the must-fail edit, which names it anew
     let is_refused = tested.is_err();
     if is_refused {
         return Answer { verdict, state };

@@ -2,8 +2,8 @@
 //
 // A partial is summed in an array of its own and copied out at the end: the compiler can't know that a lent list is not the block that is
 // read, and would store every sum at every row. That array has 225 numbers, for the widest block, whatever the width: fixed memory, no
-// heap (reason a). Where a partial goes, `base` and `partials`, stays two parameters: of a struct of a `&mut` list a contract could speak
-// only by a clause for the borrow's end (reason d).
+// heap. Where a partial goes, `base` and `partials`, stays two parameters: each contract of a struct of a `&mut`
+// list wants one clause more: that the list is the same place after the call.
 #![tactic(auto)]
 
 ghost use Rattle.std.specs.Prelude.{◌≡◌, ◌+◌, ◌*◌, ◌≤◌, ◌<◌, length, replicate};

@@ -3,7 +3,8 @@ ghost use Rattle.std.specs.Prelude.{◌≤◌, length};
 
 use std::io::Read;
 
-// Reads until the list is full, the input ends or a read fails; how many bytes were put at its front.
+// Reads until the list is full, the input ends or a read fails; how many bytes were put at its front. How far the
+// next read begins is what the last one said.
 pub fn read_full(input: &mut impl Read, bytes: &mut [u8]) -> usize
     ensures { result ≤ length bytes.new }
 {
