@@ -36,7 +36,7 @@ module _ {A : Type 0} (f : A → List ℕ) where
   unfolding joined_by
   joined-none xs = refl
 
-  pub joined-more : (xs : List A) (i : ℕ) (d : A) → i < length xs
+  joined-more : (xs : List A) (i : ℕ) (d : A) → i < length xs
       → joined_by f (take i xs) ++ item_text i (f (get_or xs i d)) ≡ joined_by f (take (i + 1) xs)
   joined-more xs i d h =
       ap (λ (n : ℕ). joined_by f (take i xs) ++ item_text n (f (get_or xs i d))) (sym (length-take-le i xs (omega arith)))
