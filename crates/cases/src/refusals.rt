@@ -5,6 +5,7 @@ use crate::stored::Said;
 use crate::tally::{Kind, Tally};
 use input::{Graph, SpectralParams, Verdict};
 
+// By document 01's number, here and in again.rt and lent.rt: told apart from the library that is tried.
 fn refusal(number: u64, place: u64) -> Verdict {
     Verdict { number, place }
 }

@@ -50,7 +50,8 @@ pub enum Spoil {
 }
 
 // Why a call must be refused. An opening: it asks for D = 0, or one of the lent lists is too short. Another call: there is no such chunk; a
-// chunk is done, or is not; no run is open; the state or the lists are not as they must be.
+// chunk is done, or is not; no run is open; the state or the lists are not as they must be. Their numbers, and those of the stages here, are
+// document 01's, told apart from the library that is tried.
 #[derive(Clone, Copy, PartialEq, Eq, Debug)]
 pub enum Refusal {
     NoDims,

@@ -1,5 +1,7 @@
 // The chunk work of the last four stages, on the rows of one chunk of the output. Each contract says what becomes of the whole lent
 // memory, whatever the lists are that the stage leaves alone.
+// They go in pairs that differ in one call, whose contract names the work of its own stage: a function of both would take that call and its
+// clause as arguments, and be no plainer.
 // What was asked and the chunk's number stand by themselves and not as a `Chunk`: these functions are public and ask no more than they did.
 ghost use Rattle.std.specs.Prelude.{◌≡◌, List, ℕ, ◌*◌, ◌≤◌, ◌<◌, Float, length};
 ghost use Rattle.definition.specs.Arith.{ieee64};

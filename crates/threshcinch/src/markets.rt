@@ -26,6 +26,7 @@ pub struct MarketSizes {
     pub entries: usize,
 }
 
+// Two of these, since C has a record for each answer, with names of its own for what both hold.
 impl From<Result<Size, Refusal>> for MarketRead {
     ghost from_gives = { λ found read. read ≡ read_told found };
 
