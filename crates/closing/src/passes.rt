@@ -7,7 +7,7 @@ ghost use Rattle.machine.specs.Ready.{StateReady};
 ghost use Rattle.machine.specs.Closing.{moved_to, after_filter, pass_counted, with_counts};
 ghost use Rattle.state.specs.Said.{asked_in, progress_in, counts_in, state_in};
 
-use state::{Asked, Progress, Stage, State};
+use state::{Asked, Counts, Progress, Stage, State};
 
 // The first pass of a round keeps alpha, which its bound has set.
 fn alpha_after(pass: usize, bound: f64, alpha: f64) -> f64
@@ -51,13 +51,19 @@ fn after_filter(asked: Asked, progress: Progress) -> Progress
 }
 
 // A pass has ended, and is counted.
-fn pass_closed(mut state: State, progress: Progress) -> State
+fn pass_closed(state: State, progress: Progress) -> State
     requires { StateReady ieee64 (state_in state) }
     ensures { state_in result ≡ with_counts ieee64 (progress_in progress) (pass_counted (counts_in state.counts)) (state_in state) }
 {
-    state.progress = progress;
-    state.counts.passes += 1;
-    state
+    let counts = Counts {
+        passes: state.counts.passes + 1,
+        ..state.counts
+    };
+    State {
+        progress,
+        counts,
+        ..state
+    }
 }
 
 pub fn close_filter(state: State) -> State

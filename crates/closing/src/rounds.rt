@@ -53,7 +53,7 @@ fn after_products(
     }
 }
 
-pub fn close_products(mut state: State, partials: Partials<'_>, ritz_record: &mut [f64]) -> State
+pub fn close_products(state: State, partials: Partials<'_>, ritz_record: &mut [f64]) -> State
     requires state_ready { StateReady ieee64 (state_in state) }
     requires asked_same { partials.asked ≡ state.asked }
     requires asked_in_bounds { state.asked.rounds * (wide (asked_in state.asked) + 1) ≤ length ritz_record.old }
@@ -73,10 +73,12 @@ pub fn close_products(mut state: State, partials: Partials<'_>, ritz_record: &mu
     let progress = after_products(asked, p, &matrix, order);
     // The bound that the round's filter used, and not the one that it sets.
     record_round(k, p.round, p.bound, &matrix, order, ritz_record);
-    state.progress = progress;
-    state.totals = products;
-    state.matrix = matrix;
-    state.vectors = vectors;
-    state.order = order;
-    state
+    State {
+        progress,
+        totals: products,
+        matrix,
+        vectors,
+        order,
+        ..state
+    }
 }

@@ -8,7 +8,7 @@ ghost use Rattle.machine.specs.Closing.{next_column, tried_again, after_write, e
 ghost use Rattle.state.specs.Said.{asked_in, progress_in, counts_in, state_in};
 
 use numbers::Ending;
-use state::{Asked, Progress, Stage, State};
+use state::{Asked, Counts, Progress, Stage, State};
 
 // The next column, or after the last one the plain pass.
 fn next_column(asked: Asked, progress: Progress) -> Progress
@@ -46,7 +46,7 @@ fn tried_again(progress: Progress) -> Progress
     }
 }
 
-pub fn close_write(mut state: State) -> State
+pub fn close_write(state: State) -> State
     requires { StateReady ieee64 (state_in state) }
     ensures { state_in result ≡ with_counts ieee64
         (after_write ieee64 (ending_in ieee64 (progress_in state.progress)) (asked_in state.asked) (progress_in state.progress))
@@ -57,21 +57,28 @@ pub fn close_write(mut state: State) -> State
     let counts = state.counts;
     let end = numbers::collapse_test(p.before, p.norm, p.attempt == 1);
     match end {
-        Ending::Kept(_) => {
-            state.progress = next_column(asked, p);
-            state
-        }
+        Ending::Kept(_) => State {
+            progress: next_column(asked, p),
+            ..state
+        },
         Ending::Refreshed => {
             let refreshed = counts.refreshed + 1;
-            state.progress = tried_again(p);
-            state.counts.refreshed = refreshed;
-            state
+            State {
+                progress: tried_again(p),
+                counts: Counts {
+                    refreshed,
+                    ..counts
+                },
+                ..state
+            }
         }
         Ending::Zeroed => {
             let zeroed = counts.zeroed + 1;
-            state.progress = next_column(asked, p);
-            state.counts.zeroed = zeroed;
-            state
+            State {
+                progress: next_column(asked, p),
+                counts: Counts { zeroed, ..counts },
+                ..state
+            }
         }
     }
 }

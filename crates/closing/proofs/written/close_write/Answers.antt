@@ -13,12 +13,12 @@ overflow_add-zeroed c = let s = c.requires in omega (arith, zeroed-room s.asked 
 
 pub returns-in-Kept : goal.returns-in-Kept
 unfolding ending_in raised_refreshed raised_zeroed
-returns-in-Kept c = rw (sym c.collapse_test-end.ensures, c.in-Kept.is, c.next_column-state.ensures)
+returns-in-Kept c = rw (sym c.collapse_test-end.ensures, c.in-Kept.is, c.next_column.ensures)
 
 pub returns-in-Refreshed : goal.returns-in-Refreshed
 unfolding ending_in raised_refreshed raised_zeroed
-returns-in-Refreshed c = rw (sym c.collapse_test-end.ensures, c.in-Refreshed.is, c.tried_again-state.ensures)
+returns-in-Refreshed c = rw (sym c.collapse_test-end.ensures, c.in-Refreshed.is, c.tried_again.ensures)
 
 pub returns-in-Zeroed : goal.returns-in-Zeroed
 unfolding ending_in raised_refreshed raised_zeroed
-returns-in-Zeroed c = rw (sym c.collapse_test-end.ensures, c.in-Zeroed.is, c.next_column-state-in-Zeroed.ensures)
+returns-in-Zeroed c = rw (sym c.collapse_test-end.ensures, c.in-Zeroed.is, c.next_column-in-Zeroed.ensures)
