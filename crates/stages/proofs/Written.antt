@@ -2,7 +2,7 @@
 -- chunk's rows as the code computes them. The laws of a chunk's own part are those of `blocks`. Assumes nothing.
 use mathlib.Core.Path.{◌≡◌, ap}
 use mathlib.Core.List.{List}
-use Prim.Native.Nat.{ℕ, ◌+◌, ◌*◌, ◌≤◌}
+use Prim.Native.Nat.{ℕ, ◌+◌, ◌*◌, ◌≤◌, ◌<◌}
 use native.Mathlib.Omega.{arith}
 use lib.Ieee.{Float}
 use Rattle.definition.specs.Arith.{ieee64}
@@ -10,12 +10,14 @@ use Rattle.definition.specs.ChunkedColumnReduce.{Block}
 use Rattle.definition.specs.Memory.{place, number_at, fill_range}
 use Rattle.definition.specs.Numbers.{first_row}
 use Rattle.definition.specs.Requirements.{Span, Starts}
+use Rattle.definition.proofs.Places.{square-least}
 use Rattle.held.specs.Places.{fill_where}
 use Rattle.held.proofs.Places.{range_where}
-use Rattle.machine.specs.State.{Asked, Lent, wide, with_output, with_partials}
+use Rattle.machine.specs.State.{Asked, Lent, chunk_count, wide, with_output, with_partials}
+use Rattle.machine.specs.Ready.{AskedReady}
 use Rattle.machine.specs.Work.{own_row, on_output, on_partials}
 use Rattle.sums.specs.Accumulators.{with_partial}
-use Rattle.blocks.proofs.Own.{span_of, rows_of, partial_of}
+use Rattle.blocks.proofs.Own.{partial_end, span_of, rows_of, partial_of}
 
 -- two lists of a record
 pub two : {A B C : Type 0} (f : A → B → C) {a x : A} {b y : B} → a ≡ x → b ≡ y → f a b ≡ f x y
@@ -24,6 +26,10 @@ two f p q = cc
 -- starts within m entries lie within more
 pub starts-within : {starts : List ℕ} {first end m : ℕ} (l : ℕ) → m ≤ l → Starts starts first end m → Starts starts first end l
 starts-within l p s = record { enough = s.enough; rising = s.rising; within = λ i a b. omega (arith, s.within i a b) }
+
+-- chunk h's partial of a column for each dimension lies within the partials
+pub partial_room : (a : Asked) (h : ℕ) {m : ℕ} → AskedReady a → h < chunk_count a → chunk_count a * wide a * wide a ≤ m → h * (wide a * wide a) + a.dims ≤ m
+partial_room a h r p q = omega (arith, partial_end h (wide a) (chunk_count a) p q, square-least (wide a) (omega arith))
 
 module _ (n h : ℕ) {first end : ℕ} (p : first ≡ first_row n h) (q : end ≡ first_row n (h + 1)) where
   -- a chunk's rows lie within a list that has n numbers or more

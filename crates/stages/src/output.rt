@@ -3,8 +3,9 @@
 // They go in pairs that differ in one call, whose contract names the work of its own stage: a function of both would take that call and its
 // clause as arguments, and be no plainer.
 // What was asked and the chunk's number stand by themselves and not as a `Chunk`: these functions are public and ask no more than they did.
-ghost use Rattle.std.specs.Prelude.{◌≡◌, List, ℕ, ◌*◌, ◌≤◌, ◌<◌, Float, length};
+ghost use Rattle.std.specs.Prelude.{◌≡◌, List, ℕ, ◌+◌, ◌*◌, ◌≤◌, ◌<◌, Float, length};
 ghost use Rattle.definition.specs.Arith.{ieee64};
+ghost use Rattle.definition.specs.Numbers.{first_row};
 ghost use Rattle.machine.specs.State.{chunk_count, wide};
 ghost use Rattle.machine.specs.Ready.{AskedReady};
 ghost use Rattle.machine.specs.Work.{sums_work, squares_work, centre_work, scale_work};
@@ -12,6 +13,31 @@ ghost use Rattle.state.specs.Said.{asked_in, lent_in};
 
 use numbers::Rows;
 use state::Asked;
+
+// The chunk's rows of the output.
+fn own_rows(asked: Asked, h: usize) -> Rows
+    ensures n { result.n ≡ asked.rows }
+    ensures width { result.width ≡ asked.dims }
+    ensures first { result.first ≡ first_row asked.rows h }
+    ensures end { result.end ≡ first_row asked.rows (h + 1) }
+{
+    Rows {
+        n: asked.rows,
+        width: asked.dims,
+        first: input::first_row(asked.rows, h),
+        end: input::end_row(asked.rows, h),
+    }
+}
+
+// The place of its partial among the partials of all chunks.
+fn own_partial(asked: Asked, h: usize) -> usize
+    requires asked_ready { AskedReady (asked_in asked) }
+    requires one_of { h < chunk_count (asked_in asked) }
+    ensures { result ≡ h * (wide (asked_in asked) * wide (asked_in asked)) }
+{
+    let k = asked.width();
+    h * (k * k)
+}
 
 // The chunk's partial of the columns' sums, at its own place among the partials.
 pub fn sums_stage(asked: Asked, h: usize, output: &[f64], partials: &mut [f64])
@@ -23,16 +49,7 @@ pub fn sums_stage(asked: Asked, h: usize, output: &[f64], partials: &mut [f64])
         ≡ sums_work ieee64 (asked_in asked) h
         (lent_in inverse v0 edge_columns edge_weights block0 block1 block2 partials.old output.now) }
 {
-    let n = asked.rows;
-    let d = asked.dims;
-    let k = d + 8;
-    let own = Rows {
-        n,
-        width: d,
-        first: input::first_row(n, h),
-        end: input::end_row(n, h),
-    };
-    sums::sums_partial(own, output, h * (k * k), partials);
+    sums::sums_partial(own_rows(asked, h), output, own_partial(asked, h), partials);
 }
 
 // The same of the columns' squares.
@@ -45,16 +62,7 @@ pub fn squares_stage(asked: Asked, h: usize, output: &[f64], partials: &mut [f64
         ≡ squares_work ieee64 (asked_in asked) h
         (lent_in inverse v0 edge_columns edge_weights block0 block1 block2 partials.old output.now) }
 {
-    let n = asked.rows;
-    let d = asked.dims;
-    let k = d + 8;
-    let own = Rows {
-        n,
-        width: d,
-        first: input::first_row(n, h),
-        end: input::end_row(n, h),
-    };
-    sums::squares_partial(own, output, h * (k * k), partials);
+    sums::squares_partial(own_rows(asked, h), output, own_partial(asked, h), partials);
 }
 
 // The means of the columns subtracted: `totals` has the columns' sums.
@@ -66,15 +74,7 @@ pub fn centre_stage(asked: Asked, totals: &[f64; 225], h: usize, output: &mut [f
         ≡ centre_work ieee64 (asked_in asked) totals.now h
         (lent_in inverse v0 edge_columns edge_weights block0 block1 block2 partials output.old) }
 {
-    let n = asked.rows;
-    let d = asked.dims;
-    let own = Rows {
-        n,
-        width: d,
-        first: input::first_row(n, h),
-        end: input::end_row(n, h),
-    };
-    columns::output::centre_chunk(own, totals, output);
+    columns::output::centre_chunk(own_rows(asked, h), totals, output);
 }
 
 // The columns multiplied by their scales, which stand in `totals`.
@@ -86,13 +86,5 @@ pub fn scale_stage(asked: Asked, totals: &[f64; 225], h: usize, output: &mut [f6
         ≡ scale_work ieee64 (asked_in asked) totals.now h
         (lent_in inverse v0 edge_columns edge_weights block0 block1 block2 partials output.old) }
 {
-    let n = asked.rows;
-    let d = asked.dims;
-    let own = Rows {
-        n,
-        width: d,
-        first: input::first_row(n, h),
-        end: input::end_row(n, h),
-    };
-    columns::output::scale_chunk(own, totals, output);
+    columns::output::scale_chunk(own_rows(asked, h), totals, output);
 }

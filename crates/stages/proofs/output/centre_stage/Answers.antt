@@ -6,19 +6,20 @@ use Rattle.stages.proofs.output.centre_stage.Goals as goal
 pub centre_chunk-requires : goal.centre_chunk-requires
 centre_chunk-requires c =
     let r = c.requires.asked_ready in
-    record {
+    rw (c.own_rows.ensures.n, c.own_rows.ensures.width)
+    (record {
       output = record {
-        span = span_of c.args.asked.rows c.args.h c.first_row.ensures c.end_row.ensures;
+        span = span_of c.args.asked.rows c.args.h c.own_rows.ensures.first c.own_rows.ensures.end;
         some = r.dims-least;
         few = r.dims-most;
         enough = c.requires.dims_in_bounds;
       };
       n_le_rows_most = r.rows-most;
-    }
+    })
 
 pub returns : goal.returns
 returns c =
     let a = asked_in c.args.asked in
     λ inverse v0 edge_columns edge_weights block0 block1 block2 partials.
     output-written a c.args.h (lent_in inverse v0 edge_columns edge_weights block0 block1 block2 partials c.args.output.now)
-    c.first_row.ensures c.end_row.ensures _ c.requires.asked_ready.dims-least c.centre_chunk.ensures
+    c.own_rows.ensures.first c.own_rows.ensures.end _ c.requires.asked_ready.dims-least (rw (c.own_rows.ensures.n, c.own_rows.ensures.width) at c.centre_chunk.ensures)

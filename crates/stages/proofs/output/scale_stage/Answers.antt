@@ -6,16 +6,17 @@ use Rattle.stages.proofs.output.scale_stage.Goals as goal
 pub scale_chunk-requires : goal.scale_chunk-requires
 scale_chunk-requires c =
     let r = c.requires.asked_ready in
-    record {
-      span = span_of c.args.asked.rows c.args.h c.first_row.ensures c.end_row.ensures;
+    rw (c.own_rows.ensures.n, c.own_rows.ensures.width)
+    (record {
+      span = span_of c.args.asked.rows c.args.h c.own_rows.ensures.first c.own_rows.ensures.end;
       some = r.dims-least;
       few = r.dims-most;
       enough = c.requires.dims_in_bounds;
-    }
+    })
 
 pub returns : goal.returns
 returns c =
     let a = asked_in c.args.asked in
     λ inverse v0 edge_columns edge_weights block0 block1 block2 partials.
     output-written a c.args.h (lent_in inverse v0 edge_columns edge_weights block0 block1 block2 partials c.args.output.now)
-    c.first_row.ensures c.end_row.ensures _ c.requires.asked_ready.dims-least c.scale_chunk.ensures
+    c.own_rows.ensures.first c.own_rows.ensures.end _ c.requires.asked_ready.dims-least (rw (c.own_rows.ensures.n, c.own_rows.ensures.width) at c.scale_chunk.ensures)
