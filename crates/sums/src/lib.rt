@@ -66,7 +66,8 @@ pub fn sums_partial(own: Rows, output: &[f64], base: usize, partials: &mut [f64]
         (λ q i. block_of ieee64.none n d output.now i q) own.first own.end partials.old }
 {
     let d = own.width;
-    let sums = rows::terms(own, d, output, |x| x);
+    let mut sums = [0.0; 225];
+    rows::terms(own, d, output, |x| x, &mut sums);
     put::put_partial(base, d, &sums, partials);
 }
 
@@ -78,7 +79,8 @@ pub fn squares_partial(own: Rows, output: &[f64], base: usize, partials: &mut [f
         (λ q i. square ieee64 (block_of ieee64.none n d output.now i q)) own.first own.end partials.old }
 {
     let d = own.width;
-    let sums = rows::terms(own, d, output, |x| x * x);
+    let mut sums = [0.0; 225];
+    rows::terms(own, d, output, |x| x * x, &mut sums);
     put::put_partial(base, d, &sums, partials);
 }
 
@@ -94,7 +96,7 @@ pub fn totals(chunks: usize, k: usize, width: usize, partials: &[f64], sums: &mu
         first: 0,
         end: chunks,
     };
-    *sums = rows::terms(all, width, partials, |x| x);
+    rows::terms(all, width, partials, |x| x, sums);
 }
 
 // The root of the total at place 0: a column's norm.

@@ -29,12 +29,18 @@ pub fn square_sum(own: Rows, c: usize, list: &[f64]) -> f64
     acc
 }
 
-// The terms of the first `width` numbers of each row.
-pub fn terms<F: Fn(f64) -> f64>(own: Rows, width: usize, list: &[f64], term: F) -> [f64; 225]
+// The terms of the first `width` numbers of each row, in `acc`, whatever stood there.
+pub fn terms<F: Fn(f64) -> f64>(
+    own: Rows,
+    width: usize,
+    list: &[f64],
+    term: F,
+    acc: &mut [f64; 225],
+)
     requires sizes { (width ≤ own.width) × (width ≤ 225) × (own.first ≤ own.end) × (own.end * own.width ≤ length list.now) }
     requires callable { F.IsAlwaysCallable term }
     ensures { (f : Float → Float) → ((x y : Float) → F.post term x y → y ≡ f x)
-        → result ≡ summed ieee64 width (λ q i. f (vector_of ieee64.none list.now (i * own.width + q))) own.first own.end }
+        → acc.new ≡ summed ieee64 width (λ q i. f (vector_of ieee64.none list.now (i * own.width + q))) own.first own.end }
 {
     let Rows {
         width: stride,
@@ -42,11 +48,10 @@ pub fn terms<F: Fn(f64) -> f64>(own: Rows, width: usize, list: &[f64], term: F) 
         end,
         ..
     } = own;
-    let mut acc = [0.0; 225];
+    *acc = [0.0; 225];
     for i in first..end {
-        row::add_terms(&mut acc, 0, width, list, i * stride, &term);
+        row::add_terms(acc, 0, width, list, i * stride, &term);
     }
-    acc
 }
 
 // The dots of column c. This loop and the next stay beside `terms`: a closure that adds a row would

@@ -9,4 +9,4 @@ use Rattle.sums.proofs.squares_partial.Goals as goal
 
 pub returns : goal.returns
 unfolding block_of place
-returns c = summed-put ieee64 _ _ _ _ _ _ (omega arith) (c.terms-sums.ensures (square ieee64) (λ x y e. search rules)) c.put_partial.ensures
+returns c = summed-put ieee64 _ _ _ _ _ _ (omega arith) (c.terms.ensures (square ieee64) (λ x y e. search rules)) c.put_partial.ensures

@@ -8,4 +8,4 @@ use Rattle.sums.proofs.sums_partial.Goals as goal
 
 pub returns : goal.returns
 unfolding block_of place
-returns c = summed-put ieee64 _ _ _ _ _ _ (omega arith) (c.terms-sums.ensures (λ x. x) (λ x y e. search rules)) c.put_partial.ensures
+returns c = summed-put ieee64 _ _ _ _ _ _ (omega arith) (c.terms.ensures (λ x. x) (λ x y e. search rules)) c.put_partial.ensures
