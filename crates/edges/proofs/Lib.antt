@@ -2,6 +2,7 @@
 pub mod Order
 pub mod Runs
 pub mod Moves
+pub mod Heaps
 pub mod Insertion
 pub mod Quick
 pub mod Ranks
