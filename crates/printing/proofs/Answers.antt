@@ -127,3 +127,6 @@ module _ (v : Verdict) (d n : ℕ) where
         let text = answer_text v d n counts seed in
         let whole = sym (ap length_in is) ∙ left.counted ∙ ap (λ (t : Verdict). length_by t text) (never_refused out h l) in
         (whole, omega (arith, whole, answer_fits h), left.bytes ∙ ap (λ (t : Verdict). bytes_by t text out) (never_refused out h l))
+
+-- for `#[tactic(auto, using(..))]` on `test_printed`
+pub ruleset printed_laws = (refusal_tests, seed_tests)

@@ -7,7 +7,7 @@ use native.Mathlib.Nat.{add-zero}
 use native.Mathlib.Omega.{arith}
 use borrow.Author.Tests.{le-leb}
 use lib.ListN.{length, take, drop, length-append, take-append-drop}
-use lib.Seq.{length-take-le, take_at, drop-drop}
+use lib.Seq.{length-take-le, take_at, drop-drop, take-length, paste}
 use Rattle.digits.specs.Placed.{put, placed, Writes}
 use Rattle.std.specs.Prelude.{Option, Some, IsSome}
 use Rattle.std.specs.Option.{is_some}
@@ -36,6 +36,12 @@ module _ (text : List ℕ) (at : ℕ) (out : List ℕ) (answer : Option ℕ) (af
   written-put next e =
       let k : Some (at + length text) ≡ Some next = sym written ∙ e in
       (cc, w.bytes ∙ ap (λ (t : Bool). cond t (put text at out) out) (le-leb (at + length text) (length out) fits))
+
+-- a copy of the whole text
+pub copied_put : (text : List ℕ) (at : ℕ) (out : List ℕ) → paste out at text (length text) ≡ put text at out
+copied_put text at out =
+    append_assoc (take at out) (take (length text) text) (drop (at + length text) out)
+    ∙ ap (λ (t : List ℕ). take at out ++ (t ++ drop (at + length text) out)) (take-length text)
 
 -- ---- two texts, one behind the other
 module _ (a b : List ℕ) (at : ℕ) (out : List ℕ) (fits : at + length a ≤ length out) where

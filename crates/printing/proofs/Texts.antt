@@ -4,7 +4,8 @@ use mathlib.Core.List.{List, [], ◌∷◌, ◌++◌, append_assoc}
 use Prim.Native.Nat.{ℕ, zero, suc, ◌+◌, ◌*◌, ◌≤◌}
 use native.Mathlib.Numerals.{add-one}
 use native.Mathlib.Omega.{arith}
-use lib.Ieee.{Float, binary64, to_bits}
+use mathlib.Core.Bool.{true, false≢true}
+use lib.Ieee.{Float, nan, inf, fin, is_nan, binary64, to_bits}
 use lib.ListN.{length, length-append}
 use Rattle.definition.specs.SpectralEmbedding.{Counts}
 use Rattle.digits.specs.Digits.{decimal}
@@ -14,6 +15,13 @@ use Rattle.printing.specs.Printed.{labelled, answer_name, n_name, passes_name, r
 use Rattle.printing.specs.Printed.{bits_text, number_text, numbers_text, row_name, row_text, rows_text}
 
 -- ---- bits
+-- for `#[tactic(auto, using(..))]` on `bits_of`: the pattern of a NaN, so that its must-fail edit, which writes another, meets the false fact
+pub nan_pattern : (x : Float) → is_nan x ≡ true → 0x7ff8_0000_0000_0000 ≡ to_bits binary64 x
+unfolding to_bits is_nan
+nan_pattern nan h = refl
+nan_pattern (inf s) h = absurd (false≢true h)
+nan_pattern (fin s m e) h = absurd (false≢true h)
+
 pub bits-length : (x : Float) → length (bits_text x) ≡ 16
 bits-length x = hex-length 16 (to_bits binary64 x)
 

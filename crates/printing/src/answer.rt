@@ -34,6 +34,7 @@ fn test_seed(d: u64, n: usize, numbers: usize) -> Result<(), Refusal>
 
 // A refusal is printed whatever D, n and the seed are. Here and below it is a `Verdict`, as C hands any number and place to be printed
 // (`threshcinch_write_answer`), more than a `Refusal` names.
+#[tactic(auto, using(crate::proofs::Answers::printed_laws))]
 fn test_printed(asked: Verdict, d: u64, n: usize, numbers: usize) -> Result<(), Refusal>
     ensures { verdict_in result ≡ test_printed (verdict_of asked) d n numbers }
 {
