@@ -54,8 +54,9 @@ pub fn chunk<'g, 'm>(
         other_lengths(seen, ritz_record),
     );
     let verdict = Verdict::from(tested);
-    // a name of its own for the must-fail edit, which names it anew
-    let is_refused = tested.is_err();
+    // By C's number, and named: so the must-fail edit, which asks for another number, meets the false fact. Of `tested.is_err()` (tried) it was
+    // refused for its form alone, also where its meaning was right.
+    let is_refused = verdict.number != 0;
     if is_refused {
         return Answer { verdict, state };
     }

@@ -7,7 +7,7 @@ use Rattle.machine.specs.Ranges.{test_chunk}
 use Rattle.state.specs.Said.{state_in, lists_of, all_of, all_seen}
 use Rattle.ready.proofs.Ready.{chunk_ready, ready_beside}
 use Rattle.stages.proofs.Parts.{parts_ready}
-use Rattle.run.proofs.Paths.{no_refusal, a_refusal, zero-passes, chunk-refused, chunk-taken}
+use Rattle.run.proofs.Paths.{zero-passes, chunk-refused, chunk-taken}
 use Rattle.run.proofs.chunks.chunk.Goals as goal
 use Rattle.run.proofs.chunks.chunk.Goals.{After-from-verdict}
 
@@ -23,14 +23,14 @@ found t =
 
 pub returns-then-is_refused-clause-answer : goal.returns-then-is_refused-clause-answer
 returns-then-is_refused-clause-answer c =
-    chunk-refused ieee64 _ _ _ _ _ (found (goal.at.returns-then-is_refused-clause-answer c).After-from-verdict) (a_refusal _ c.from-verdict.ensures (sym c.is_err-is_refused.ensures.value ∙ c.if-is_refused.true))
+    chunk-refused ieee64 _ _ _ _ _ (found (goal.at.returns-then-is_refused-clause-answer c).After-from-verdict) c.if-is_refused.true
 
 pub work_chunk-requires : goal.work_chunk-requires
 work_chunk-requires c =
-    let R = chunk_ready ieee64 _ _ _ _ _ (zero-passes (found (goal.at.work_chunk-requires c).After-from-verdict) (no_refusal _ c.from-verdict.ensures (sym c.is_err-is_refused.ensures.value ∙ c.if-is_refused.false))) in
+    let R = chunk_ready ieee64 _ _ _ _ _ (zero-passes (found (goal.at.work_chunk-requires c).After-from-verdict) c.if-is_refused.false) in
     record { ready = parts_ready ieee64 (ready_beside ieee64 _ _ _ c.args.ritz_record.now _ R.0); h_in_bounds = R.4 }
 
 pub returns-clause-answer : goal.returns-clause-answer
 returns-clause-answer c =
-    chunk-taken ieee64 _ _ _ _ _ (found (goal.at.returns-clause-answer c).After-from-verdict) (no_refusal _ c.from-verdict.ensures (sym c.is_err-is_refused.ensures.value ∙ c.if-is_refused.false))
+    chunk-taken ieee64 _ _ _ _ _ (found (goal.at.returns-clause-answer c).After-from-verdict) c.if-is_refused.false
     c.work_chunk.ensures.memory_after c.work_chunk.ensures.marks_after
