@@ -2,7 +2,7 @@
 // must be refused, and one at which a chunk, or at last closing, must be accepted.
 use crate::damage::Damage;
 use input::Verdict;
-use state::{Stage, State};
+use state::State;
 use std::fmt;
 use std::ops::AddAssign;
 
@@ -20,6 +20,12 @@ impl Order {
     // Those of the runs that are compared with the upward one.
     pub const LATER: [Order; 3] = [Order::Downward, Order::OddFirst, Order::Shuffled];
 }
+
+// The stages of the passes, as document 01 numbers them and not as the library does: that is tried here.
+const PASSES: [usize; 2] = [5, 13];
+
+// The stage of a run that has ended.
+const ENDED: usize = 20;
 
 // Steps at which a run that has ended is offered calls.
 const STEPS_AFTER: usize = 3;
@@ -229,8 +235,7 @@ fn short_record(by: u64) -> Call {
 
 // The first entry's column is read in the passes alone.
 fn bad_edge(state: &State) -> Option<Call> {
-    let stage = Stage::from(state.progress.stage);
-    let is_pass = matches!(stage, Stage::FilterPass | Stage::PlainPass);
+    let is_pass = PASSES.contains(&state.progress.stage);
     if !is_pass || state.asked.entries == 0 {
         return None;
     }
@@ -353,7 +358,7 @@ impl Walk {
 
     // The call that comes at the step, where there is one.
     pub fn planned(&self, state: &State) -> Option<Call> {
-        if Stage::from(state.progress.stage) == Stage::Ended {
+        if state.progress.stage == ENDED {
             return self.after_end();
         }
         let turn = self.step / 4;
@@ -364,7 +369,7 @@ impl Walk {
     }
 
     pub fn is_over(&self, state: &State) -> bool {
-        Stage::from(state.progress.stage) == Stage::Ended && STEPS_AFTER <= self.step
+        state.progress.stage == ENDED && STEPS_AFTER <= self.step
     }
 
     // ---- what is counted

@@ -2,7 +2,10 @@
 use crate::cases::Case;
 use crate::digest;
 use crate::lists::LENT;
-use state::{Progress, Stage};
+use state::Progress;
+
+// The stage that writes a round's numbers as it closes.
+const PRODUCTS: usize = 14;
 
 // The looks of a run: how many numbers were of finished rounds at the last one, and their digest; how many looks there were, and how many
 // were right.
@@ -16,7 +19,7 @@ pub struct Looks {
 
 // As many numbers as are of rounds whose products have closed. In the stages after the last round the state still has that round's number.
 pub fn finished(case: Case, progress: Progress) -> usize {
-    if Stage::Products.number() < progress.stage {
+    if PRODUCTS < progress.stage {
         return case.record();
     }
     case.record_of(progress.round)
