@@ -7,8 +7,9 @@
  * crates/definition and crates/machine). None asks for anything first, except what C itself leaves to the caller: a list's address and
  * length must be those of memory that is there, aligned for its elements, and a list that is written must overlap no other list of the call;
  * and the thread must have the stack that a call takes: about 56,000 bytes (closing 55,700, reading a run file 51,300, the one call 45,100, writing
- * a run file 34,000, a chunk 34,800, opening 18,200, writing an answer 9,400; bindings/c/stack.c measures them). One call takes far more: reading a
- * Matrix Market file, about 394,000 bytes whatever the file is. A host whose threads have small stacks must know it.
+ * a run file 34,000, a chunk 33,600, on rows in the worst order 34,800, opening 18,200, writing an answer 9,400; bindings/c/stack.c measures all but
+ * the worst order). One call takes far more: reading a Matrix Market file, about 394,000 bytes whatever the file is. A host whose threads have small
+ * stacks must know it.
  *
  * Call the short forms: threshcinch_embed, threshcinch_run_open, _run_chunk, _run_close, _run_accepted and _run_owed, threshcinch_file_write,
  * _file_read and threshcinch_answer_write, threshcinch_market_sizes and _market_read, and threshcinch_set_seed_std. They are a few lines around
